@@ -1,0 +1,19 @@
+# make run     build the judge and run it on the example P, Q, K of the format's document
+# make test    the whole gate: layout, proofs, must-fail edits, programs; its last line is rt's 'N passed, 0 failed'
+# make bench   speed, as ratios in one run; no part of the gate
+# make fmt     lay out every file under crates/
+
+.PHONY: run test bench fmt
+
+run:
+	@echo "make run: nothing to run yet; the judge's program is not built."
+
+test:
+	rt fmt --check
+	rt ci
+
+bench:
+	@echo "make bench: nothing to measure yet; the judge is not built."
+
+fmt:
+	rt fmt

@@ -1,0 +1,255 @@
+-- Laws of lists filled by index, and of loops that fill a list: by index (`Filled`), part after part (`Front`), row after row (`Rows`) and
+-- column after column (`Column`, `Columns`). Each loop has a law for its start, for one turn and for its end. Assumes nothing.
+use mathlib.Core.Path.{_≡_, refl, sym, ap, _∙_, subst}
+use mathlib.Core.List.{List, [], _∷_, _++_, append-assoc, append-nil}
+use mathlib.Core.Logic.{_⊎_, inl, inr, ⊎-elim}
+use Prim.Native.Nat.{ℕ, zero, suc, _+_, _*_, _-_, _/_, _%_, _<_, _≤_, zero-le}
+use native.Mathlib.Nat.{not-suc-le-zero, le-of-suc-le-suc, eq-or-lt-of-le, mul-le-mul-right, suc-mul, zero-mul, div-add-mod', div-lt-iff-lt-mul, mod-lt}
+use native.Mathlib.Numerals.{add-one}
+use native.Mathlib.Omega.{arith}
+use native.Mathlib.Decide.{ℕ-discrete}
+use lib.Arith.{digits-div, digits-mod, digits-lt}
+use lib.ListN.{length, take, drop, getD, set, length-append, length-take, length-drop, length-set, drop-of-length-le, List·getD-append, List·getD-eq-default}
+use lib.Seq.{getD-set-same, getD-set-other, getD-at, getD-append-add, ext-getD, set-at, drop-cons, take-at, drop-at, drop-length}
+use borrow.Author.Count.{below-more}
+use borrow.Author.Tests.{le-leb, lt-leb}
+use borrow.Rule.Slice.PartMut.{putMid, midOf, post-is, mid-len}
+use Rattle.lists.specs.Lists.{tabulate, grid, part, putFront}
+
+-- ---- a list by index
+
+pub length-tabulate : (n : ℕ) (f : ℕ → ℕ) → length (tabulate n f) ≡ n
+unfolding tabulate
+length-tabulate zero f = refl
+length-tabulate (suc n) f = length-append (tabulate n f) (f n ∷ []) ∙ ap (λ (k : ℕ). k + 1) (length-tabulate n f) ∙ add-one n
+
+pub tabulate-more : (n : ℕ) (f : ℕ → ℕ) → tabulate (n + 1) f ≡ tabulate n f ++ (f n ∷ [])
+unfolding tabulate
+tabulate-more n f = rw add-one
+
+pub getD-tabulate : (n i : ℕ) (f : ℕ → ℕ) → i < n → getD (tabulate n f) i 0 ≡ f i
+unfolding tabulate
+getD-tabulate zero i f h = absurd (not-suc-le-zero h)
+getD-tabulate (suc n) i f h =
+    ⊎-elim
+    (λ e. ap (λ (k : ℕ). getD (tabulate n f ++ (f n ∷ [])) k 0) e ∙ getD-at (tabulate n f) (f n) [] 0 n (length-tabulate n f) ∙ ap f (sym e))
+    (λ l. List·getD-append (tabulate n f) (f n ∷ []) 0 i (rw length-tabulate l) ∙ getD-tabulate n i f l)
+    (eq-or-lt-of-le (le-of-suc-le-suc h))
+
+-- past the end stand zeros
+pub getD-past : (l : List ℕ) (i : ℕ) → length l ≤ i → getD l i 0 ≡ 0
+getD-past l i h = List·getD-eq-default l 0 {n = i} h
+
+-- a list is the table of its elements
+pub tabulate-of : (l : List ℕ) (n : ℕ) → n ≡ length l → tabulate n (λ (k : ℕ). getD l k 0) ≡ l
+tabulate-of l n e =
+    ext-getD 0 (tabulate n (λ (k : ℕ). getD l k 0)) l (length-tabulate n (λ (k : ℕ). getD l k 0) ∙ e)
+    (λ i h. getD-tabulate n i (λ (k : ℕ). getD l k 0) (rw length-tabulate at h))
+
+pub tabulate-cong : (n : ℕ) (f g : ℕ → ℕ) → ((s : ℕ) → s < n → f s ≡ g s) → tabulate n f ≡ tabulate n g
+tabulate-cong n f g h =
+    ext-getD 0 (tabulate n f) (tabulate n g) (length-tabulate n f ∙ sym (length-tabulate n g))
+    (λ i l. let k : i < n = rw length-tabulate at l in getD-tabulate n i f k ∙ h i k ∙ sym (getD-tabulate n i g k))
+
+-- a store at i gives the table of a function that differs at i alone
+pub tabulate-set : (n i v : ℕ) (f g : ℕ → ℕ) → i < n → v ≡ g i → ((s : ℕ) → s < n → (s ≡ i → ⊥) → f s ≡ g s) → set (tabulate n f) i v ≡ tabulate n g
+tabulate-set n i v f g h e other =
+    ext-getD 0 (set (tabulate n f) i v) (tabulate n g) (length-set (tabulate n f) i v ∙ length-tabulate n f ∙ sym (length-tabulate n g))
+    λ s l.
+    let k : s < n = rw (length-set, length-tabulate) at l in
+    elim (ℕ-discrete s i) [
+      | yes q ↦ ap (λ (x : ℕ). getD (set (tabulate n f) i v) x 0) q ∙ getD-set-same (tabulate n f) i v 0 (rw length-tabulate h) ∙ e ∙ ap g (sym q) ∙ sym (getD-tabulate n s g k)
+      | no q ↦ getD-set-other (tabulate n f) i s v 0 q ∙ getD-tabulate n s f k ∙ other s k q ∙ sym (getD-tabulate n s g k)
+    ]
+
+-- ---- a loop that fills a list d from the front by a function f of the index: after n stores it is l
+
+pub record Filled (n : ℕ) (f : ℕ → ℕ) (d l : List ℕ) : Type 0 where
+  pub eq : l ≡ tabulate n f ++ drop n d
+  pub le : n ≤ length d
+  pub len : length l ≡ length d
+
+pub filled-none : (f : ℕ → ℕ) (d : List ℕ) → Filled 0 f d d
+unfolding tabulate
+filled-none f d = record { eq = refl; le = zero-le; len = refl }
+
+pub filled-more : {n : ℕ} {f : ℕ → ℕ} {d l : List ℕ} {v : ℕ} → Filled n f d l → n < length l → v ≡ f n → Filled (n + 1) f d (set l n v)
+filled-more {n} {f} {d} {l} {v} w h q =
+    record {
+      eq = ap (λ (x : List ℕ). set x n v) (w .eq) ∙ ap (λ (y : ℕ). set (tabulate n f ++ drop n d) n y) q ∙ stored;
+      le = omega arith;
+      len = length-set l n v ∙ w .len;
+    }
+  where
+    stored : set (tabulate n f ++ drop n d) n (f n) ≡ tabulate (n + 1) f ++ drop (n + 1) d
+    stored =
+        ap (λ (x : List ℕ). set (tabulate n f ++ x) n (f n)) (drop-cons d n 0 (omega arith))
+        ∙ set-at (tabulate n f) (getD d n 0) (drop (suc n) d) (f n) n (length-tabulate n f)
+        ∙ rw (tabulate-more, append-assoc, add-one)
+
+pub filled-all : {n : ℕ} {f : ℕ → ℕ} {d l : List ℕ} → Filled n f d l → length l ≤ n → l ≡ tabulate (length d) f
+filled-all {n} {f} {d} {l} w h =
+    let k : n ≡ length d = omega arith in
+    w .eq ∙ ap (λ (k : ℕ). tabulate k f ++ drop k d) k ∙ ap (λ (x : List ℕ). tabulate (length d) f ++ x) (drop-length d) ∙ append-nil (tabulate (length d) f)
+
+-- ---- a front p, up to a, written over d: the list is l
+
+pub record Front (p d l : List ℕ) (a : ℕ) : Type 0 where
+  pub eq : l ≡ p ++ drop a d
+  pub front : length p ≡ a
+  pub le : a ≤ length d
+  pub len : length l ≡ length d
+
+pub front-none : (d : List ℕ) → Front [] d d 0
+front-none d = record { eq = refl; front = refl; le = zero-le; len = refl }
+
+-- a part from a to e is lent, and comes back as r: the front is longer by r
+pub front-part : {p d l ys : List ℕ} {a : ℕ} (e : ℕ) (r : List ℕ) → Front p d l a → a ≤ e → e ≤ length l → ys ≡ r → length r ≡ e - a
+    → Front (p ++ r) d (putMid a (e - a) l ys) e
+front-part {p} {d} {l} {ys} {a} e r w k b q h =
+    let i : take a l ≡ p = ap (take a) (w .eq) ∙ take-at p (drop a d) a (w .front) in
+    let j : drop a l ≡ drop a d = ap (drop a) (w .eq) ∙ drop-at p (drop a d) a (w .front) in
+    let g : putMid a (e - a) l ys ≡ (p ++ r) ++ drop e d = rw (i, j, q, post-is a e d k, append-assoc) in
+    let n : length (p ++ r) ≡ e = length-append p r ∙ omega arith in
+    record {
+      eq = g;
+      front = n;
+      le = omega arith;
+      len = ap length g ∙ length-append (p ++ r) (drop e d) ∙ rw (n, length-drop) (omega arith);
+    }
+
+-- everything is written
+pub front-all : {p d l : List ℕ} {a : ℕ} → Front p d l a → length l ≤ a → l ≡ p
+front-all {p} {d} {l} {a} w h =
+    let k : length d ≤ a = omega arith in
+    w .eq ∙ ap (λ (x : List ℕ). p ++ x) (drop-of-length-le d k) ∙ append-nil p
+
+-- a list that has room takes the front, and one that has none stays
+pub put-front-fits : (p d : List ℕ) → length p ≤ length d → putFront p d ≡ p ++ drop (length p) d
+unfolding putFront
+put-front-fits p d h = simp (le-leb (length p) (length d) h)
+
+pub put-front-short : (p d : List ℕ) → length d < length p → putFront p d ≡ d
+unfolding putFront
+put-front-short p d h = simp (lt-leb (length p) (length d) h)
+
+-- ---- rows of m
+
+pub length-grid : (n m : ℕ) (f : ℕ → ℕ → ℕ) → length (grid n m f) ≡ n * m
+unfolding grid
+length-grid zero m f = sym (zero-mul m)
+length-grid (suc n) m f = length-append (grid n m f) (tabulate m (f n)) ∙ rw (length-grid n m f, length-tabulate, suc-mul)
+
+-- row s of n rows of m lies in them
+pub row-fits : (s n m : ℕ) → s < n → s * m + m ≤ n * m
+row-fits s n m h = rw suc-mul at (mul-le-mul-right m h)
+
+-- a loop that fills d by rows of m, each lent as a part: after s rows, up to a, it is l
+pub record Rows (s a m : ℕ) (f : ℕ → ℕ → ℕ) (d l : List ℕ) : Type 0 where
+  pub rows : Front (grid s m f) d l a
+  pub at : a ≡ s * m
+
+pub rows-none : (m : ℕ) (f : ℕ → ℕ → ℕ) (d : List ℕ) → Rows 0 0 m f d d
+unfolding grid
+rows-none m f d = record { rows = front-none d; at = sym (zero-mul m) }
+
+-- row s is lent and comes back filled, of n rows that have room
+pub rows-more : {s a m : ℕ} {f : ℕ → ℕ → ℕ} {d l ys : List ℕ} (n : ℕ) → Rows s a m f d l → s < n → length d ≡ n * m
+    → ys ≡ tabulate (length (midOf a (a + m - a) l)) (f s) → Rows (s + 1) (a + m) m f d (putMid a (a + m - a) l ys)
+unfolding grid
+rows-more {s} {a} {m} {f} {d} {l} {ys} n w h k q =
+    let fits : s * m + m ≤ n * m = row-fits s n m h in
+    let end : a + m ≤ length l = omega arith in
+    let k : length (midOf a (a + m - a) l) ≡ m = mid-len a (a + m) l end ∙ omega arith in
+    let len : length (tabulate m (f s)) ≡ a + m - a = length-tabulate m (f s) ∙ omega arith in
+    record {
+      rows = rw add-one (front-part (a + m) (tabulate m (f s)) (w .rows) (omega arith) end (q ∙ ap (λ (x : ℕ). tabulate x (f s)) k) len);
+      at = rw (add-one, suc-mul) (omega arith);
+    }
+
+pub rows-all : {s a m : ℕ} {f : ℕ → ℕ → ℕ} {d l : List ℕ} (n : ℕ) → Rows s a m f d l → s ≡ n → length d ≡ n * m → l ≡ grid n m f
+rows-all {s} {a} {m} {f} {d} {l} n w e k =
+    let q : a ≡ n * m = w .at ∙ ap (λ (x : ℕ). x * m) e in
+    front-all (w .rows) (omega arith) ∙ ap (λ (x : ℕ). grid x m f) e
+
+-- n rows of m are lent at a, and come back filled
+pub front-run : {p d l ys : List ℕ} {a : ℕ} (n m : ℕ) (f : ℕ → ℕ → ℕ) → Front p d l a → a + n * m ≤ length d → ys ≡ grid n m f
+    → Front (p ++ grid n m f) d (putMid a (a + n * m - a) l ys) (a + n * m)
+front-run {p} {d} {l} {ys} {a} n m f w h q = front-part (a + n * m) (grid n m f) w (omega arith) (omega arith) q (length-grid n m f ∙ omega arith)
+
+-- the part that is lent has as many elements as the rows
+pub run-length : {p d l : List ℕ} {a : ℕ} (n m : ℕ) → Front p d l a → a + n * m ≤ length d → length (midOf a (a + n * m - a) l) ≡ n * m
+run-length {p} {d} {l} {a} n m w h = mid-len a (a + n * m) l (omega arith) ∙ omega arith
+
+-- ---- the cells of rows of m: cell s, t stands at s * m + t
+
+module _ (m s t r x : ℕ) (h : t < m) (k : x < m) (e : s * m + t ≡ r * m + x) where
+  pub cell-row : s ≡ r
+  cell-row = sym (digits-div s h) ∙ ap (λ (i : ℕ). i / m) e ∙ digits-div r k
+
+  pub cell-column : t ≡ x
+  cell-column = sym (digits-mod s h) ∙ ap (λ (i : ℕ). i % m) e ∙ digits-mod r k
+
+pub getD-grid : (n m : ℕ) (f : ℕ → ℕ → ℕ) (s t : ℕ) → s < n → t < m → getD (grid n m f) (s * m + t) 0 ≡ f s t
+unfolding grid
+getD-grid zero m f s t h k = absurd (not-suc-le-zero h)
+getD-grid (suc n) m f s t h k =
+    ⊎-elim
+    (λ e. ap (λ (r : ℕ). getD (grid n m f ++ tabulate m (f n)) (r * m + t) 0) e
+    ∙ ap (λ (i : ℕ). getD (grid n m f ++ tabulate m (f n)) (i + t) 0) (sym (length-grid n m f))
+    ∙ getD-append-add (grid n m f) (tabulate m (f n)) t 0 ∙ getD-tabulate m t (f n) k ∙ ap (λ (r : ℕ). f r t) (sym e))
+    (λ l. List·getD-append (grid n m f) (tabulate m (f n)) 0 (s * m + t) (rw length-grid (digits-lt l k)) ∙ getD-grid n m f s t l k)
+    (eq-or-lt-of-le (le-of-suc-le-suc h))
+
+-- a list that has the cells of a grid is the grid
+pub grid-cells : (n m : ℕ) (f : ℕ → ℕ → ℕ) (l : List ℕ) → 0 < m → length l ≡ n * m → ((s t : ℕ) → s < n → t < m → getD l (s * m + t) 0 ≡ f s t) → l ≡ grid n m f
+grid-cells n m f l p e h =
+    ext-getD 0 l (grid n m f) (e ∙ sym (length-grid n m f))
+    (λ i b.
+    let q : i / m < n = div-lt-iff-lt-mul p .1 (rw e at b) in
+    let r : i % m < m = mod-lt i p in
+    let z : i / m * m + i % m ≡ i = div-add-mod' i m in
+    subst (λ (j : ℕ). getD l j 0 ≡ getD (grid n m f) j 0) z (h (i / m) (i % m) q r ∙ sym (getD-grid n m f (i / m) (i % m) q r)))
+
+-- ---- a loop that stores g s at row s of column t, in rows of m: after n rows d is l
+
+pub record Column (n m t : ℕ) (g : ℕ → ℕ) (d l : List ℕ) : Type 0 where
+  pub here : (s : ℕ) → s < n → getD l (s * m + t) 0 ≡ g s
+  pub other : (s x : ℕ) → x < m → (x ≡ t → ⊥) → getD l (s * m + x) 0 ≡ getD d (s * m + x) 0
+
+pub column-none : (m t : ℕ) (g : ℕ → ℕ) (d : List ℕ) → Column 0 m t g d d
+column-none m t g d = record { here = λ s h. absurd (not-suc-le-zero h); other = λ s x h k. refl }
+
+pub column-more : {s m t v : ℕ} {g : ℕ → ℕ} {d l : List ℕ} → Column s m t g d l → t < m → s * m + t < length l → v ≡ g s
+    → Column (s + 1) m t g d (set l (s * m + t) v)
+column-more {s} {m} {t} {v} {g} {d} {l} w h b e =
+    record {
+      here = below-more (λ (r : ℕ). getD (set l (s * m + t) v) (r * m + t) 0 ≡ g r) s
+          (λ r k. getD-set-other l (s * m + t) (r * m + t) v 0 (λ q. let z : r ≡ s = cell-row m r t s t h h q in omega arith) ∙ w .here r k)
+          (getD-set-same l (s * m + t) v 0 b ∙ e);
+      other = λ r x k n. getD-set-other l (s * m + t) (r * m + x) v 0 (λ q. n (cell-column m r x s t k h q)) ∙ w .other r x k n;
+    }
+
+-- the columns below t of n rows of m are done
+pub record Columns (n m t : ℕ) (f : ℕ → ℕ → ℕ) (l : List ℕ) : Type 0 where
+  pub done : (s x : ℕ) → s < n → x < t → getD l (s * m + x) 0 ≡ f s x
+
+pub columns-none : (n m : ℕ) (f : ℕ → ℕ → ℕ) (l : List ℕ) → Columns n m 0 f l
+columns-none n m f l = record { done = λ s x h k. absurd (not-suc-le-zero k) }
+
+pub columns-more : {n m t : ℕ} {f : ℕ → ℕ → ℕ} {g : ℕ → ℕ} {d l : List ℕ} → Columns n m t f d → Column n m t g d l → t < m → ((s : ℕ) → s < n → g s ≡ f s t)
+    → Columns n m (t + 1) f l
+columns-more {n} {m} {t} {f} {g} {d} {l} w c h e =
+    record {
+      done = λ s x p q.
+          below-more (λ (y : ℕ). getD l (s * m + y) 0 ≡ f s y) t
+          (λ y k. c .other s y (omega arith) (λ z. omega arith) ∙ w .done s y p k) (c .here s p ∙ e s p) x q;
+    }
+
+pub columns-all : {n m t : ℕ} {f : ℕ → ℕ → ℕ} {l : List ℕ} → Columns n m t f l → t ≡ m → 0 < m → length l ≡ n * m → l ≡ grid n m f
+columns-all {n} {m} {t} {f} {l} w e p h = grid-cells n m f l p h (λ s x a b. w .done s x a (rw e b))
+
+-- ---- parts
+
+pub part-length : (l : List ℕ) (a m : ℕ) → a + m ≤ length l → length (part l a (a + m)) ≡ m
+part-length l a m h = mid-len a (a + m) l h ∙ omega arith

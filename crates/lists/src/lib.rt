@@ -1,0 +1,71 @@
+// Total reads of bytes and of numbers in bytes, for every slice and every index.
+ghost use mathlib.Core.Path.{_≡_};
+ghost use Prim.Native.Nat.{_+_, _^_, _≤_, _<_};
+ghost use Rattle.lists.specs.Numbers.{byteAt, bigEndian};
+
+// A byte as a usize.
+fn wide(b: u8) -> usize
+    ensures { λ r. ⌜ r ≡ b ⌝ }
+{
+    b as usize
+}
+
+// The byte at i, and 0 past the end.
+pub fn byte(s: &[u8], i: usize) -> usize
+    ensures value { λ r. ⌜ r ≡ byteAt (now (s .entry)) i ⌝ }
+    ensures small { λ r. ⌜ r < 256 ⌝ }
+{
+    if i < s.len() { wide(s[i]) } else { 0 }
+}
+
+// The byte i places after at, and 0 past the end: at + i may lie beyond the largest index.
+fn byte_after(s: &[u8], at: usize, i: usize) -> usize
+    ensures value { λ r. ⌜ r ≡ byteAt (now (s .entry)) (at + i) ⌝ }
+    ensures small { λ r. ⌜ r < 256 ⌝ }
+{
+    if s.len() <= at {
+        return 0;
+    }
+    if s.len() - at <= i {
+        return 0;
+    }
+    byte(s, at + i)
+}
+
+// The number in the k bytes from at on, the high byte first; past the end stand zeros.
+fn number(s: &[u8], at: usize, k: usize) -> u64
+    requires { ⌜ k ≤ 8 ⌝ }
+    ensures value { λ r. ⌜ r ≡ bigEndian (now (s .entry)) at k ⌝ }
+    ensures small { λ r. ⌜ r < 256 ^ k ⌝ }
+{
+    let mut x: u64 = 0;
+    let mut i: usize = 0;
+    while i < k {
+        x = x * 256 + byte_after(s, at, i) as u64;
+        i += 1;
+    }
+    x
+}
+
+// The number in the 2 bytes from at on.
+pub fn read_be16(s: &[u8], at: usize) -> u64
+    ensures value { λ r. ⌜ r ≡ bigEndian (now (s .entry)) at 2 ⌝ }
+    ensures small { λ r. ⌜ r < 65536 ⌝ }
+{
+    number(s, at, 2)
+}
+
+// The number in the 4 bytes from at on.
+pub fn read_be32(s: &[u8], at: usize) -> u64
+    ensures value { λ r. ⌜ r ≡ bigEndian (now (s .entry)) at 4 ⌝ }
+    ensures small { λ r. ⌜ r < 4294967296 ⌝ }
+{
+    number(s, at, 4)
+}
+
+// The number in the 8 bytes from at on.
+pub fn read_be64(s: &[u8], at: usize) -> u64
+    ensures { λ r. ⌜ r ≡ bigEndian (now (s .entry)) at 8 ⌝ }
+{
+    number(s, at, 8)
+}
