@@ -1,0 +1,146 @@
+-- The judge's tests say what the clauses say, each read off and put together, for one side. Assumes nothing.
+use Prim.Native.Nat.{ℕ, _<_}
+use mathlib.Core.Path.{_≡_, refl}
+use mathlib.Core.Logic.{_↔_, _⊎_, inl, inr, ⊎-elim}
+use mathlib.Core.Bool.{Bool, true, false}
+use lib.Dec.{T, eqb, eqb→eq, ltb→lt, lt→ltb}
+use Rattle.lists.proofs.BelowLaws.{any-e, any-i, all-e, all-i}
+use Rattle.lists.proofs.BoolLaws.{and-l, and-r, and-i, imp-i, imp-e, eq→eqb}
+use Rattle.bisimulation.specs.Clauses.{Meets2a, Meets2b, Meets2c, Meets, EveryObligation, Certified}
+use Rattle.bisimulation.specs.Judge.{is2a, is2b, is2c, firstOf, outcome, isMet, allPairs, allStepsFrom, initialRelated, labelsEqual, obligationsMet, accepts}
+use Rattle.bisimulation.specs.Systems.{View, flip, Ranks, swap, WellFormed, InitialRelated, LabelsEqual}
+
+pub flip-formed : (v : View) → WellFormed v → WellFormed (flip v)
+flip-formed v w = record { here = w .there; there = w .here }
+
+-- the first of three
+pub met-cases : (a b c : Bool) → T (isMet (firstOf a b c)) → T a ⊎ ((T a → ⊥) × (T b ⊎ T c))
+met-cases true b c h = inl tt
+met-cases false true c h = inr (λ z. z, inl tt)
+met-cases false false true h = inr (λ z. z, inr tt)
+met-cases false false false h = absurd h
+
+pub met-a : (a b c : Bool) → T a → T (isMet (firstOf a b c))
+met-a true b c h = tt
+met-a false b c h = absurd h
+
+pub met-b : (a b c : Bool) → T b → T (isMet (firstOf a b c))
+met-b true b c h = tt
+met-b false true c h = tt
+met-b false false c h = absurd h
+
+pub met-c : (a b c : Bool) → T c → T (isMet (firstOf a b c))
+met-c true b c h = tt
+met-c false true c h = tt
+met-c false false true h = tt
+met-c false false false h = absurd h
+
+module _ (v : View) where
+  open View v using (own, other, related, answers)
+
+  pub pairs-e : WellFormed v → (f : ℕ → ℕ → Bool) → T (allPairs v f) → (s t : ℕ) → T (related s t) → T (f s t)
+  unfolding allPairs
+  pairs-e w f h s t r = imp-e (related s t) (f s t) (all-e _ _ (all-e _ _ h s (w .here .related< s t r)) t (w .there .related< t s r)) r
+
+  pub pairs-i : (f : ℕ → ℕ → Bool) → ((s t : ℕ) → T (related s t) → T (f s t)) → T (allPairs v f)
+  unfolding allPairs
+  pairs-i f h = all-i _ _ λ s ls. all-i _ _ λ t lt. imp-i (related s t) (f s t) (h s t)
+
+  pub initial-e : WellFormed v → T (initialRelated v) → InitialRelated v
+  unfolding initialRelated
+  initial-e w h s a = let q = any-e _ _ (imp-e (own .initial s) _ (all-e _ _ h s (w .here .initial< s a)) a) in (q .0, search (and-l, and-r), search (and-l, and-r))
+
+  pub initial-i : WellFormed v → InitialRelated v → T (initialRelated v)
+  unfolding initialRelated
+  initial-i w h = all-i _ _ λ s l. imp-i (own .initial s) _ λ a. let q = h s a in any-i _ _ (q .0) (w .there .initial< (q .0) (q .1)) (search and-i)
+
+  pub steps-e : (s : ℕ) (f : ℕ → Bool) → T (allStepsFrom v s f) → (j : ℕ) → j < own .steps → own .from j ≡ s → T (f j)
+  unfolding allStepsFrom
+  steps-e s f h j l e = imp-e (eqb (own .from j) s) (f j) (all-e _ _ h j l) (eq→eqb _ _ e)
+
+  pub steps-i : (s : ℕ) (f : ℕ → Bool) → ((j : ℕ) → j < own .steps → own .from j ≡ s → T (f j)) → T (allStepsFrom v s f)
+  unfolding allStepsFrom
+  steps-i s f h = all-i _ _ λ j l. imp-i (eqb (own .from j) s) (f j) λ e. h j l (eqb→eq _ _ e)
+
+  pub is2a-e : (j t : ℕ) → T (is2a v j t) → Meets2a v j t
+  unfolding is2a
+  is2a-e j t h =
+      let r = any-e _ _ h in
+      let p = r .2 in
+      (r .0, r .1, eqb→eq _ _ (search (and-l, and-r)), search (and-l, and-r), search (and-l, and-r))
+
+  pub is2a-i : (j t : ℕ) → Meets2a v j t → T (is2a v j t)
+  unfolding is2a
+  is2a-i j t r = any-i _ _ (r .0) (r .1) (search (and-i, eq→eqb))
+
+  module _ (r : Ranks) where
+    pub is2b-e : (j t : ℕ) → T (is2b v r j t) → Meets2b v r j t
+    unfolding is2b
+    is2b-e j t h = search (and-l, and-r, ltb→lt)
+
+    pub is2b-i : (j t : ℕ) → Meets2b v r j t → T (is2b v r j t)
+    unfolding is2b
+    is2b-i j t p = search (and-i, lt→ltb)
+
+    pub is2c-e : (j t : ℕ) → T (is2c v r j t) → Meets2c v r j t
+    unfolding is2c
+    is2c-e j t h =
+        let q = any-e _ _ h in
+        let p = q .2 in
+        (q .0, q .1, eqb→eq _ _ (search (and-l, and-r)), search (and-l, and-r), search (and-l, and-r), ltb→lt _ _ (search (and-l, and-r)))
+
+    pub is2c-i : (j t : ℕ) → Meets2c v r j t → T (is2c v r j t)
+    unfolding is2c
+    is2c-i j t q = any-i _ _ (q .0) (q .1) (search (and-i, eq→eqb, lt→ltb))
+
+    -- the first clause that holds is met just where one holds
+    pub met-e : (j t : ℕ) → T (isMet (outcome v r j t)) → Meets v r j t
+    unfolding outcome
+    met-e j t h =
+        ⊎-elim (λ a. inl (is2a-e j t a)) (λ a. inr (⊎-elim (λ b. inl (is2b-e j t b)) (λ b. inr (is2c-e j t b)) (a .1)))
+        (met-cases (is2a v j t) (is2b v r j t) (is2c v r j t) h)
+
+    pub met-i : (j t : ℕ) → Meets v r j t → T (isMet (outcome v r j t))
+    unfolding outcome
+    met-i j t (inl a) = met-a (is2a v j t) _ _ (is2a-i j t a)
+    met-i j t (inr (inl a)) = met-b (is2a v j t) (is2b v r j t) _ (is2b-i j t a)
+    met-i j t (inr (inr a)) = met-c (is2a v j t) (is2b v r j t) (is2c v r j t) (is2c-i j t a)
+
+-- every obligation of the side is met by one of the clauses just where the judge finds it so
+module _ (v : View) (w : WellFormed v) (r : Ranks) where
+  pub obligations-e : T (obligationsMet v r) → EveryObligation Meets v r
+  unfolding obligationsMet
+  obligations-e h j t l p = met-e v r j t (steps-e v (v .own .from j) _ (pairs-e v w _ h (v .own .from j) t p) j l refl)
+
+  pub obligations-i : EveryObligation Meets v r → T (obligationsMet v r)
+  unfolding obligationsMet
+  obligations-i h = pairs-i v _ λ s t p. steps-i v s _ λ j l e. met-i v r j t (h j t l (rw e p))
+
+-- the labels that are tested, and the initial states
+pub labels-e : (v : View) → WellFormed v → T (labelsEqual v) → LabelsEqual v
+unfolding labelsEqual
+labels-e v w h s t p = eqb→eq _ _ (pairs-e v w _ h s t p)
+
+pub labels-i : (v : View) → LabelsEqual v → T (labelsEqual v)
+unfolding labelsEqual
+labels-i v h = pairs-i v _ λ s t p. eq→eqb _ _ (h s t p)
+
+-- 6a: the judge accepts exactly where the initial states are related, the labels are equal, and every obligation of both sides meets 2a, 2b or 2c
+pub accepts-iff : (v : View) → WellFormed v → (r : Ranks) → T (accepts v r) ↔ Certified Meets v r
+unfolding accepts
+accepts-iff v w r = (
+  λ h. record {
+    initial = initial-e v w (search (and-l, and-r));
+    initial′ = initial-e (flip v) (flip-formed v w) (search (and-l, and-r));
+    labels = labels-e v w (search (and-l, and-r));
+    own-met = obligations-e v w r (search (and-l, and-r));
+    other-met = obligations-e (flip v) (flip-formed v w) (swap r) (search (and-l, and-r));
+  },
+  λ c.
+      let a = initial-i v w (c .initial) in
+      let b = initial-i (flip v) (flip-formed v w) (c .initial′) in
+      let d = labels-i v (c .labels) in
+      let e = obligations-i v w r (c .own-met) in
+      let f = obligations-i (flip v) (flip-formed v w) (swap r) (c .other-met) in
+      search and-i,
+)

@@ -1,0 +1,11 @@
+-- The theorems, and the laws that they stand on.
+
+pub mod ClauseLaws
+pub mod RankLaws
+pub mod BlockLaws
+pub mod Sound
+pub mod Complete
+pub mod Made
+pub mod RunLaws
+pub mod PlainPaths
+pub mod Equivalences

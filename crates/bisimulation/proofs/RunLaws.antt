@@ -1,0 +1,172 @@
+-- The rounds and the recursion on k mean what the document says: an obligation is matched where a matching run of any length exists, its
+-- distance is the least number of steps inside one, and the chain length is the most steps of a chain.
+-- The key idea: along a shortest run the number of rounds that is left falls, so it passes through no state twice and has fewer steps inside
+-- than there are states, and that many rounds find every match. Assumes nothing.
+use Prim.Native.Nat.{ℕ, zero, suc, _≤_, _<_, zero-le}
+use mathlib.Core.Path.{_≡_, refl, sym, ap}
+use mathlib.Core.Logic.{_↔_, ⊎-elim}
+use mathlib.Core.Bool.{Bool, _&&_, cond}
+use mathlib.Core.List.{List, [], _∷_, _++_, map}
+use native.Mathlib.Nat.{not-suc-le-zero, le-refl, le-of-suc-le-suc}
+use native.Mathlib.Decide.{decLt}
+use native.Mathlib.Omega.{arith}
+use lib.Dec.{T, eqb, eqb→eq}
+use lib.ListN.{length}
+use Rattle.lists.specs.Below.{firstBelow}
+use Rattle.lists.specs.Lists.{All}
+use Rattle.lists.proofs.BelowLaws.{any-e, any-i, most-ge, most-le, most-at, first-le, first-at}
+use Rattle.lists.proofs.BoolLaws.{and-l, and-r, and-i, or-e, or-r, eq→eqb, cond-true, cond-upto, cond-pos}
+use Rattle.bisimulation.specs.Judge.{is2a}
+use Rattle.bisimulation.specs.Maker.{matchesWithin, matched, distance, stutters, chainLength}
+use Rattle.bisimulation.specs.Runs.{MatchingRun, StutteringChain}
+use Rattle.bisimulation.specs.StepPaths.{StepPath}
+use Rattle.bisimulation.specs.Systems.{View, WellFormed}
+use Rattle.bisimulation.proofs.ClauseLaws.{is2a-e, is2a-i}
+use Rattle.bisimulation.proofs.RankLaws.{lower, lower-falls, lower-bound}
+
+module _ (v : View) where
+  open View v using (own, other, related, answers)
+
+  -- a stretch of silent steps K from t, then k, is a run that matches j
+  pub run-matches : (j t : ℕ) (K : List ℕ) (k : ℕ) (L : List ℕ) → StepPath other t (K ++ (k ∷ L)) → All (λ e. T (other .silent e)) K
+      → All (λ y. T (related (own .from j) y)) (map (other .to) K) → T (answers j k) → T (related (own .to j) (other .to k)) → T (matchesWithin v j (length K) t)
+  unfolding matchesWithin
+  run-matches j t [] k L p q a b c = is2a-i v j t (k, p .0, p .1, b, c)
+  run-matches j t (e ∷ K) k L p q a b c =
+      or-r (is2a v j t) _ (any-i _ _ e (p .0) (let r = run-matches j (other .to e) K k L (p .2) (q .1) (a .1) b c in search (and-i, eq→eqb)))
+
+  pub matched-e : (j t : ℕ) → T (matched v j t) → (distance v j t < other .states) × T (matchesWithin v j (distance v j t) t)
+  unfolding matched distance
+  matched-e j t h =
+      let r = any-e _ _ h in
+      (omega (arith, first-le _ (λ k. matchesWithin v j k t) (r .0) (r .1) (r .2)), first-at _ (λ k. matchesWithin v j k t) (r .0) (r .1) (r .2))
+
+  -- j leaves s and may stand in a chain at t
+  abbrev pub inChain : ℕ → ℕ → ℕ → Bool
+  inChain t s j = eqb (own .from j) s && stutters v t j
+
+  pub chain-bound : (t k s : ℕ) → chainLength v t k s ≤ k
+  unfolding chainLength
+  chain-bound t zero s = zero-le
+  chain-bound t (suc k) s = most-le _ _ _ λ j l. cond-upto (inChain t s j) (suc (chainLength v t k (own .to j))) (suc k) λ h. omega (arith, chain-bound t k (own .to j))
+
+  pub chain-step : (t k s j : ℕ) → j < own .steps → T (inChain t s j) → chainLength v t k (own .to j) < chainLength v t (suc k) s
+  unfolding chainLength
+  chain-step t k s j l h = omega (arith, most-ge (own .steps) (λ i. cond (inChain t s i) (suc (chainLength v t k (own .to i))) 0) j l, cond-true (inChain t s j) (suc (chainLength v t k (own .to j))) 0 h)
+
+module _ (v : View) (w : WellFormed v) (j : ℕ) where
+  open View v using (own, other, related, answers)
+
+  -- the least number of rounds at y, of at most N
+  abbrev rounds : ℕ → ℕ → ℕ
+  rounds N y = firstBelow (suc N) (λ i. matchesWithin v j i y)
+
+  record Unrolled (N y : ℕ) : Type 0 where
+    K : List ℕ
+    is : MatchingRun v j y K
+    short : length K ≤ rounds N y
+    low′ : length K ≤ lower (other .states) (rounds N) (rounds N y)
+
+  abbrev Unrolling : ℕ → ℕ → Type 0
+  Unrolling N M = (y : ℕ) → rounds N y < M → T (related (own .from j) y) → rounds N y ≤ N → T (matchesWithin v j (rounds N y) y) → Unrolled N y
+
+  unroll-at : (N M : ℕ) → Unrolling N M → Unrolling N (suc M)
+  unfolding matchesWithin
+  unroll-at N M rec y l p g h = go (rounds N y) refl h
+    where
+      at-once : T (is2a v j y) → Unrolled N y
+      at-once a = let q = is2a-e v j y a in record { K = []; is = record { last = q .0; path = (q .1, q .2, tt); inside = tt; related = (p, tt); answers = q .3; meets = q .4 }; short = zero-le; low′ = zero-le }
+
+      go : (c : ℕ) → rounds N y ≡ c → T (matchesWithin v j c y) → Unrolled N y
+      go zero e r = at-once r
+      go (suc c) e r =
+          ⊎-elim at-once
+          (λ a.
+          let q = any-e _ _ a in
+          let k = q .0 in
+          let b = q .2 in
+          let x : T (matchesWithin v j c (other .to k)) = search (and-l, and-r) in
+          let m = first-le (suc N) (λ i. matchesWithin v j i (other .to k)) c (omega arith) x in
+          let i = rec (other .to k) (omega arith) (search (and-l, and-r)) (omega arith) (first-at (suc N) (λ i. matchesWithin v j i (other .to k)) c (omega arith) x) in
+          record {
+            K = k ∷ i .K;
+            is = record { last = i .is .last; path = (q .1, eqb→eq _ _ (search (and-l, and-r)), i .is .path); inside = (search (and-l, and-r), i .is .inside); related = (p, i .is .related); answers = i .is .answers; meets = i .is .meets };
+            short = omega (arith, i .short);
+            low′ = omega (arith, i .low′, lower-falls (other .states) (rounds N) (rounds N y) (other .to k) (w .there .to< k (q .1)) (omega arith));
+          })
+          (or-e (is2a v j y) _ r)
+
+  unroll : (N M : ℕ) → Unrolling N M
+  unroll N zero y l p g h = absurd (not-suc-le-zero l)
+  unroll N (suc M) y l p g h = unroll-at N M (λ z. unroll N M z) y l p g h
+
+  module _ (t : ℕ) (p : T (related (own .from j) t)) where
+    -- a match within N rounds gives a run of at most N steps inside, and fewer than the other side's states
+    pub shorten : (N : ℕ) → T (matchesWithin v j N t) → (K : List ℕ) × MatchingRun v j t K × (length K ≤ N) × (length K < other .states)
+    shorten N h =
+        let m = first-le (suc N) (λ i. matchesWithin v j i t) N (le-refl _) h in
+        let u = unroll N (suc N) t (omega arith) p m (first-at (suc N) (λ i. matchesWithin v j i t) N (le-refl _) h) in
+        (u .K, u .is, omega (arith, u .short), omega (arith, u .low′, lower-bound (other .states) (rounds N) t (w .there .related< t (own .from j) p)))
+
+    matches-run : (K : List ℕ) → MatchingRun v j t K → T (matchesWithin v j (length K) t)
+    matches-run K l = run-matches v j t K (l .last) [] (l .path) (l .inside) (l .related .1) (l .answers) (l .meets)
+
+    -- where there is a run, the obligation is matched, and the distance is at most the run's steps inside
+    pub run-matched : (K : List ℕ) → MatchingRun v j t K → T (matched v j t) × (distance v j t ≤ length K)
+    unfolding matched distance
+    run-matched K l =
+        let s = shorten (length K) (matches-run K l) in
+        let r = matches-run (s .0) (s .1) in
+        (any-i _ (λ k. matchesWithin v j k t) (length (s .0)) (s .3) r, omega (arith, s .2, first-le (other .states) (λ k. matchesWithin v j k t) (length (s .0)) (s .3) r))
+
+    -- where it is matched, there is a run with as many steps inside as the distance
+    pub matched-run : T (matched v j t) → (K : List ℕ) × MatchingRun v j t K × (length K ≡ distance v j t)
+    matched-run h =
+        let s = shorten (distance v j t) (matched-e v j t h .1) in
+        (s .0, s .1, omega (arith, s .2, run-matched (s .0) (s .1) .1))
+
+    -- matched: a run of any length exists
+    pub matched-iff : T (matched v j t) ↔ ((K : List ℕ) × MatchingRun v j t K)
+    matched-iff = (λ h. let q = matched-run h in (q .0, q .1), λ q. run-matched (q .0) (q .1) .0)
+
+module _ (v : View) (t : ℕ) where
+  open View v using (own)
+
+  -- no chain of at most k steps is longer
+  pub chain-most : (k s : ℕ) (J : List ℕ) → StutteringChain v t s J → length J ≤ k → length J ≤ chainLength v t k s
+  chain-most k s [] c l = zero-le
+  chain-most zero s (j ∷ J) c l = absurd (not-suc-le-zero l)
+  chain-most (suc k) s (j ∷ J) c l =
+      omega (arith, chain-most k (own .to j) J (record { path = c .path .2; unmatched = c .unmatched .1 }) (omega arith), chain-step v t k s j (c .path .0) (and-i (eqb (own .from j) s) (stutters v t j) (eq→eqb _ _ (c .path .1)) (c .unmatched .0)))
+
+  -- and one is as long
+  pub chain-some : (k s : ℕ) → (J : List ℕ) × StutteringChain v t s J × (length J ≡ chainLength v t k s)
+  unfolding chainLength
+  chain-some zero s = ([], record { path = tt; unmatched = tt }, refl)
+  chain-some (suc k) s = go (chainLength v t (suc k) s) refl (λ j. chain-some k (own .to j))
+    where
+      go : (c : ℕ) → chainLength v t (suc k) s ≡ c → ((j : ℕ) → (J : List ℕ) × StutteringChain v t (own .to j) J × (length J ≡ chainLength v t k (own .to j))) → (J : List ℕ) × StutteringChain v t s J × (length J ≡ chainLength v t (suc k) s)
+      go zero e rec = ([], record { path = tt; unmatched = tt }, sym e)
+      go (suc b) e rec =
+          let q : b < chainLength v t (suc k) s = omega (arith, e) in
+          let r = most-at _ _ b q in
+          let j = r .0 in
+          let d = cond-pos (eqb (own .from j) s && stutters v t j) (suc (chainLength v t k (own .to j))) b (r .2) in
+          let o = d .0 in
+          let i = rec j in
+          (j ∷ i .0, record { path = (r .1, eqb→eq _ _ (search and-l), i .1 .path); unmatched = (search and-r, i .1 .unmatched) }, omega (arith, i .2, d .1, chain-step v t k s j (r .1) o))
+
+  -- the first k steps of a chain are a chain
+  chain-prefix : (k s : ℕ) (J : List ℕ) → StutteringChain v t s J → k ≤ length J → (I : List ℕ) × StutteringChain v t s I × (length I ≡ k)
+  chain-prefix zero s J c l = ([], record { path = tt; unmatched = tt }, refl)
+  chain-prefix (suc k) s [] c l = absurd (not-suc-le-zero l)
+  chain-prefix (suc k) s (j ∷ J) c l =
+      let i = chain-prefix k (own .to j) J (record { path = c .path .2; unmatched = c .unmatched .1 }) (le-of-suc-le-suc l) in
+      (j ∷ i .0, record { path = (c .path .0, c .path .1, i .1 .path); unmatched = (c .unmatched .0, i .1 .unmatched) }, ap suc (i .2))
+
+  -- where no chain of k steps was found, no chain of whatever length is longer than the one found
+  pub chain-longest : (k s : ℕ) (J : List ℕ) → StutteringChain v t s J → chainLength v t k s < k → length J ≤ chainLength v t k s
+  chain-longest k s J c h = elim (decLt k (length J)) [
+    | yes l ↦ (let i = chain-prefix k s J c (omega arith) in absurd (let z = chain-most k s (i .0) (i .1) (omega (arith, i .2)) in omega (arith, i .2)))
+    | no l ↦ chain-most k s J c (omega arith)
+  ]

@@ -1,0 +1,11 @@
+pub mod Systems
+pub mod Judge
+pub mod Clauses
+pub mod PathProperty
+pub mod StepPaths
+pub mod Matcher
+pub mod Maker
+pub mod Runs
+pub mod Namjoshi
+pub mod Triples
+pub mod Counterexample

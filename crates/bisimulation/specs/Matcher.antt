@@ -1,0 +1,67 @@
+-- The path matcher: it answers a given path on the other side by the judge's clauses in order, the smallest state each time, with a new block
+-- at each 2a; where the given path ends in a terminal state it goes on, by smallest states, to a terminal state.
+use Prim.Native.Nat.{ℕ, zero, suc, _+_}
+use mathlib.Core.Bool.{Bool, _&&_, not, cond}
+use mathlib.Core.List.{List, [], _∷_}
+use lib.Dec.{eqb}
+use Rattle.lists.specs.Below.{anyBelow, firstBelow}
+use Rattle.bisimulation.specs.Systems.{System, View, Ranks}
+use Rattle.bisimulation.specs.Judge.{Outcome, by2a, by2b, by2c, failed, meets2a, meets2c, outcome}
+use Rattle.bisimulation.specs.StepPaths.{Cut}
+
+-- The smallest state that a passing step enters.
+unfoldable pub smallestEntered : System → (ℕ → Bool) → ℕ
+smallestEntered S f = firstBelow (S .states) (λ x. anyBelow (S .steps) (λ i. f i && eqb (S .to i) x))
+
+-- Of the steps that pass, the first that enters the smallest state.
+unfoldable pub smallestStep : System → (ℕ → Bool) → ℕ
+smallestStep S f = firstBelow (S .steps) (λ k. f k && eqb (S .to k) (smallestEntered S f))
+
+-- Some step leaves s.
+unfoldable pub moves : System → ℕ → Bool
+moves S s = anyBelow (S .steps) (λ j. eqb (S .from j) s)
+
+-- No step more.
+abbrev pub nothing : Cut
+nothing = record { first = []; later = []; first′ = []; later′ = [] }
+
+-- A new block on both sides, entered by j and by k, before the cut x.
+abbrev pub enter : ℕ → ℕ → Cut → Cut
+enter j k x = record { first = []; later = (j ∷ x .first) ∷ x .later; first′ = []; later′ = (k ∷ x .first′) ∷ x .later′ }
+
+-- The own step j inside the first block, before the cut x.
+abbrev pub grow : ℕ → Cut → Cut
+grow j x = record { first = j ∷ x .first; later = x .later; first′ = x .first′; later′ = x .later′ }
+
+-- The other's step k inside the first block, before the cut x.
+abbrev pub push : ℕ → Cut → Cut
+push k x = record { first = x .first; later = x .later; first′ = k ∷ x .first′; later′ = x .later′ }
+
+abbrev pub choose : Outcome → Cut → Cut → Cut → Cut
+choose by2a x y z = x
+choose by2b x y z = y
+choose by2c x y z = z
+choose failed x y z = nothing
+
+-- At most N moves, from s with the steps J to go, facing t.
+unfoldable pub matchSteps : View → Ranks → ℕ → ℕ → List ℕ → ℕ → Cut
+matchSteps v r zero s J t = nothing
+matchSteps v r (suc N) s [] t =
+    let k = smallestStep (v .other) (λ i. eqb (v .other .from i) t) in
+    cond (not (moves (v .own) s) && moves (v .other) t) (push k (matchSteps v r N s [] (v .other .to k))) nothing
+matchSteps v r (suc N) s (j ∷ J) t =
+    let k = smallestStep (v .other) (meets2a v j t) in
+    let e = smallestStep (v .other) (meets2c v r j t) in
+    choose (outcome v r j t)
+    (enter j k (matchSteps v r N (v .own .to j) J (v .other .to k)))
+    (grow j (matchSteps v r N (v .own .to j) J t))
+    (push e (matchSteps v r N s (j ∷ J) (v .other .to e)))
+
+-- As many moves as it can make, where the other side has n states.
+abbrev pub movesNeeded : ℕ → List ℕ → ℕ
+movesNeeded n [] = suc n
+movesNeeded n (j ∷ J) = suc (n + movesNeeded n J)
+
+-- The path of the steps J from s, matched from t.
+unfoldable pub matchPath : View → Ranks → ℕ → List ℕ → ℕ → Cut
+matchPath v r s J t = matchSteps v r (movesNeeded (v .other .states) J) s J t
