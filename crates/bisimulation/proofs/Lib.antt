@@ -9,3 +9,8 @@ pub mod Made
 pub mod RunLaws
 pub mod PlainPaths
 pub mod Equivalences
+pub mod Pigeonhole
+pub mod Sides
+pub mod Literal
+pub mod NamjoshiTheorems
+pub mod CounterexampleLaws
