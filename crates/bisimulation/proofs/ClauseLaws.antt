@@ -14,23 +14,25 @@ pub flip-formed : (v : View) → WellFormed v → WellFormed (flip v)
 flip-formed v w = record { here = w .there; there = w .here }
 
 -- the first of three
-pub met-cases : (a b c : Bool) → T (isMet (firstOf a b c)) → T a ⊎ ((T a → ⊥) × (T b ⊎ T c))
+met-cases : (a b c : Bool) → T (isMet (firstOf a b c)) → T a ⊎ ((T a → ⊥) × (T b ⊎ T c))
 met-cases true b c h = inl tt
 met-cases false true c h = inr (λ z. z, inl tt)
 met-cases false false true h = inr (λ z. z, inr tt)
 met-cases false false false h = absurd h
 
-pub met-a : (a b c : Bool) → T a → T (isMet (firstOf a b c))
-met-a true b c h = tt
+met-a : (a b c : Bool) → T a → T (isMet (firstOf a b c))
+met-a true true c h = tt
+met-a true false c h = tt
 met-a false b c h = absurd h
 
-pub met-b : (a b c : Bool) → T b → T (isMet (firstOf a b c))
-met-b true b c h = tt
+met-b : (a b c : Bool) → T b → T (isMet (firstOf a b c))
+met-b true true c h = tt
 met-b false true c h = tt
-met-b false false c h = absurd h
+met-b a false c h = absurd h
 
-pub met-c : (a b c : Bool) → T c → T (isMet (firstOf a b c))
-met-c true b c h = tt
+met-c : (a b c : Bool) → T c → T (isMet (firstOf a b c))
+met-c true true c h = tt
+met-c true false c h = tt
 met-c false true c h = tt
 met-c false false true h = tt
 met-c false false false h = absurd h
@@ -125,7 +127,7 @@ pub labels-i : (v : View) → LabelsEqual v → T (labelsEqual v)
 unfolding labelsEqual
 labels-i v h = pairs-i v _ λ s t p. eq→eqb _ _ (h s t p)
 
--- 6a: the judge accepts exactly where the initial states are related, the labels are equal, and every obligation of both sides meets 2a, 2b or 2c
+-- Demand 2, which certificates: the judge accepts exactly where the initial states are related, the labels are equal, and every obligation of both sides meets 2a, 2b or 2c
 pub accepts-iff : (v : View) → WellFormed v → (r : Ranks) → T (accepts v r) ↔ Certified Meets v r
 unfolding accepts
 accepts-iff v w r = (

@@ -36,7 +36,7 @@ only-step x (zero, l, e, f) = f
 only-step x (suc zero, l, e, f) = omega arith
 only-step x (suc (suc j), l, e, f) = omega arith
 
--- the pair (0, 0) and the left step from 0 to 1: 2a fails, 1 is Related to 0 so the paper's 2c is shut, and both A ranks are 0
+-- the pair (0, 0) and the left step from 0 to 1: 2a fails, 1 is related to 0 so the paper's 2c is shut, and both A ranks are 0
 pub two-not-literal : Bisimulation twoTwo _<_ (tripleRank twoTwo (made twoTwo)) → ⊥
 unfolding twoStates twoRows twoTwo ownRank stutterRank matched stutters chainLength matchesWithin is2a anyBelow mostBelow
 two-not-literal b = ⊎-elim (λ a. not-2a (a .0) (a .1) (a .2)) (λ a. ⊎-elim (λ c. not-suc-le-zero (c .1)) (λ c. c .0 tt) a) (b .clause2 s t tt u (0, suc-le-suc zero-le, refl, refl))

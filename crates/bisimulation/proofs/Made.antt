@@ -51,8 +51,14 @@ module _ (v : View) where
       go (suc k) e p =
           ⊎-elim (λ a. inl (is2a-e v j t a))
           (λ b. let q = any-e _ _ b in let d = q .2 in
-          inr (inr (q .0, q .1, eqb→eq _ _ (search (and-l, and-r)), search (and-l, and-r), search (and-l, and-r),
-          omega (arith, match-rank-is j t r h, match-rank-le j k (other .to (q .0)) (omega (arith, matched-e v j t h .0)) (search (and-l, and-r))))))
+          inr (inr (
+            q .0,
+            q .1,
+            eqb→eq _ _ (search (and-l, and-r)),
+            search (and-l, and-r),
+            search (and-l, and-r),
+            omega (arith, match-rank-is j t r h, match-rank-le j k (other .to (q .0)) (omega (arith, matched-e v j t h .0)) (search (and-l, and-r))),
+          )))
           (or-e (is2a v j t) _ p)
 
   met-stuttering : (j t : ℕ) → j < own .steps → T (stutters v t j) → chainLength v t (own .states) (own .to j) < own .states → T (related (own .from j) t)

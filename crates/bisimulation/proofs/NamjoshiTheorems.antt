@@ -102,7 +102,7 @@ module _ (v : View) (w : WellFormed v) (k : Plain v) where
   literal-bisimulation : (r : Ranks) → Certified MeetsLiterally v r → Bisimulation v _<_ (tripleRank v r)
   literal-bisimulation r c = both-sides v _<_ (tripleRank v r) (c .labels) (literal-side v w k r (c .own-met)) (literal-side (flip v) (flip-formed v w) (flip-plain v k) (swap r) (c .other-met))
 
-  -- 6c, from the paper to document 01: a certificate of which the paper's clauses hold literally is accepted
+  -- Demand 2, how the two meet, from the paper to document 01: a certificate of which the paper's clauses hold literally is accepted
   pub bisimulation-accepted : NoTwice (v .own) → NoTwice (v .other) → (r : Ranks) → InitialStatesRelated v → Bisimulation v _<_ (tripleRank v r) → T (accepts v r)
   bisimulation-accepted o o′ r p b =
       literal-accepted v w r (record {
@@ -113,7 +113,7 @@ module _ (v : View) (w : WellFormed v) (k : Plain v) where
         other-met = side-literal (flip v) (flip-formed v w) (flip-plain v k) (swap r) o′ (right-side v _<_ (tripleRank v r) b);
       })
 
-  -- 6c, from document 01 to the paper: an accepted certificate's ranks, once the A ranks are raised, satisfy the paper's clauses literally
+  -- Demand 2, how the two meet, from document 01 to the paper: an accepted certificate's ranks, once the A ranks are raised, satisfy the paper's clauses literally
   pub accepted-bisimulation : (r : Ranks) → T (accepts v r) → InitialStatesRelated v × Bisimulation v _<_ (tripleRank v (raised v r))
   accepted-bisimulation r h =
       let c = accepted-literal v w r h in
@@ -135,7 +135,7 @@ module _ (v : View) (w : WellFormed v) (k : Plain v) where
       let f = side-none-endless (flip v) (flip-formed v w) (flip-plain v k) ≺ nd (onRight v ≺ rank) l′ in
       search and-i
 
-  -- 6b: some certificate with byte ranks is accepted exactly where the relation is a well-founded bisimulation with initial states related
+  -- Demand 2, which relations: some certificate with byte ranks is accepted exactly where the relation is a well-founded bisimulation with initial states related
   pub accepted-iff-bisimulation : v .own .states ≤ 64 → v .other .states ≤ 64 → ((r : Ranks) × Bytes r × T (accepts v r)) ↔ (InitialStatesRelated v × SomeRank v)
   accepted-iff-bisimulation a b = (
     λ p. let q = accepted-bisimulation (p .0) (p .2) in (q .0, (ℕ, _<_, no-descent, tripleRank v (raised v (p .0)), q .1)),

@@ -55,7 +55,8 @@ Told a b c by2c = (T a → ⊥) × T c
 Told a b c failed = Unit {0}
 
 tell : (a b c : Bool) → Told a b c (firstOf a b c)
-tell true b c = tt
+tell true true c = tt
+tell true false c = tt
 tell false true c = (λ z. z, tt)
 tell false false true = (λ z. z, tt)
 tell false false false = tt
@@ -161,7 +162,7 @@ module _ (v : View) (r : Ranks) (w : WellFormed v) (D : EveryObligation Meets v 
   unfolding is2c
   picked-2c j t h = let q = pick-passes other (w .there .to<) (meets2c v r j t) h in (q .0, eqb→eq _ _ (search (and-l, and-r)), search (and-l, and-r), search (and-l, and-r), ltb→lt _ _ (search (and-l, and-r)))
 
-  -- the end of the path: on to a dead end where s is one
+  -- the end of the path: on to a terminal state where s is one
   tail : (M N s t : ℕ) → lower (other .states) (λ y. r .stutter′ y s) (r .stutter′ t s) < M → M ≤ N → T (related s t) → Alone (λ y. r .stutter′ y s) s [] t (matchSteps v r N s [] t)
   unfolding matchSteps
   tail zero N s t g b h = absurd (not-suc-le-zero g)
