@@ -70,7 +70,7 @@ module _ (v : View) where
         search (and-l, and-r),
         u,
         rw (cond-true (related (own .to j) t) _ _ u, cond-true (related (own .from j) t) _ _ r)
-            (falls t (own .states) (own .from j) j l (and-i (eqb (own .from j) (own .from j)) (stutters v t j) (eqb-refl (own .from j)) h) b),
+            (omega (arith, falls t (own .states) (own .from j) j l (and-i (eqb (own .from j) (own .from j)) (stutters v t j) (eqb-refl (own .from j)) h) b)),
       ))
 
   module _ (w : WellFormed v) (a : T (noneUnmatched v)) (b : T (noneEndless v)) where

@@ -39,7 +39,8 @@ module _ (v : View) where
   unfolding matched distance
   matched-e j t h =
       let r = any-e _ _ h in
-      (omega (arith, first-le _ (λ k. matchesWithin v j k t) (r .0) (r .1) (r .2)), first-at _ (λ k. matchesWithin v j k t) (r .0) (r .1) (r .2))
+      let l : r .0 < other .states = omega (arith, r .1) in
+      (omega (arith, first-le (other .states) (λ k. matchesWithin v j k t) (r .0) l (r .2)), first-at (other .states) (λ k. matchesWithin v j k t) (r .0) l (r .2))
 
   -- j leaves s and may stand in a chain at t
   abbrev pub inChain : ℕ → ℕ → ℕ → Bool
