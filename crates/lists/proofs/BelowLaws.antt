@@ -1,16 +1,16 @@
 -- Laws of the bounded searches: what each says and how it is shown, and one index more, as a loop that counts up needs it.
 -- Assumes nothing.
 use Prim.Native.Nat.{ℕ, zero, suc, _+_, max, _≤_, _<_, suc-le-suc, zero-le}
-use mathlib.Core.Path.{_≡_, refl, sym, ap, ap₂, _∙_, subst}
+use mathlib.Core.Path.{_≡_, refl, sym, ap, ap₂, _∙_}
 use mathlib.Core.Logic.{_⊎_, inl, inr, ⊎-elim}
-use mathlib.Core.Bool.{Bool, true, false, _&&_, _||_, not, cond, or-assoc, or-false, or-true, false≢true}
-use native.Mathlib.Nat.{le-of-suc-le-suc, not-suc-le-zero, le-refl, add-assoc}
+use mathlib.Core.Bool.{Bool, true, false, _&&_, _||_, cond, or-assoc, or-false}
+use native.Mathlib.Nat.{le-of-suc-le-suc, not-suc-le-zero, le-refl}
 use native.Mathlib.Numerals.{add-one}
 use native.Mathlib.Omega.{arith}
 use native.Mathlib.Decide.{decLt}
 use lib.Dec.{T}
-use Rattle.lists.specs.Below.{anyBelow, allBelow, firstBelow, sumBelow, countBelow, mostBelow, implies}
-use Rattle.lists.proofs.BoolLaws.{and-l, and-r, and-i, or-e, or-l, or-r, T-dec, T-true, true-T, not-T-false, false-not-T, same-T, cond-true, cond-false}
+use Rattle.lists.specs.Below.{anyBelow, allBelow, firstBelow, sumBelow, countBelow, mostBelow}
+use Rattle.lists.proofs.BoolLaws.{and-l, and-r, and-i, or-e, or-l, or-r, T-dec, T-true, true-T, false-not-T, cond-true}
 
 -- ---- some
 
@@ -204,6 +204,20 @@ count-le n f g h = sum-le n _ _ (λ i l. one-le (f i) (g i) (h i l))
 pub count-lt : (n : ℕ) (f g : ℕ → Bool) (x : ℕ) → x < n → (T (f x) → ⊥) → T (g x) → ((i : ℕ) → i < n → T (f i) → T (g i)) → countBelow n f < countBelow n g
 unfolding countBelow
 count-lt n f g x l p q h = sum-lt n _ _ x l (one-lt (f x) (g x) p q) (λ i k. one-le (f i) (g i) (h i k))
+
+-- and one more where that index is the only one
+pub count-less : (n : ℕ) (f g : ℕ → Bool) (t : ℕ) → t < n → f t ≡ false → g t ≡ true → ((i : ℕ) → (i ≡ t → ⊥) → f i ≡ g i)
+    → countBelow n f + 1 ≡ countBelow n g
+unfolding countBelow sumBelow
+count-less zero f g t l p q same = absurd (not-suc-le-zero l)
+count-less (suc n) f g zero l p q same =
+    let rest : countBelow n (λ i. f (suc i)) ≡ countBelow n (λ i. g (suc i)) =
+    count-cong n _ _ (λ i b. same (suc i) (λ e. omega arith)) in
+    rw (p, q) (omega arith)
+count-less (suc n) f g (suc t) l p q same =
+    let rest : countBelow n (λ i. f (suc i)) + 1 ≡ countBelow n (λ i. g (suc i)) =
+    count-less n (λ i. f (suc i)) (λ i. g (suc i)) t (le-of-suc-le-suc l) p q (λ i d. same (suc i) (λ e. d (omega arith))) in
+    rw (same 0 (λ e. omega arith)) (omega arith)
 
 -- ---- one index more, as a loop that counts up has it
 

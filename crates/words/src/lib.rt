@@ -1,0 +1,92 @@
+// A set of states below 64, as the bits of a word.
+ghost use mathlib.Core.Path.{_≡_};
+ghost use lib.Bits.{bitAnd};
+ghost use Rattle.lists.specs.Numbers.{bigEndian, bigBytes};
+ghost use Rattle.lists.specs.Lists.{putFront};
+ghost use Rattle.words.specs.Bits.{hasBit, addBit, removeBit, countBits, firstBit};
+
+// A set of states: state t is in it where the word has the bit of weight 2 to the power t.
+pub struct Row(pub u64);
+
+impl Row {
+    // No state.
+    pub fn empty() -> Self
+        ensures { λ r. ⌜ r .0 ≡ 0 ⌝ }
+    {
+        Row(0)
+    }
+
+    // Whether state t is in the set.
+    pub fn has(self, t: usize) -> bool
+        ensures { λ r. ⌜ r ≡ hasBit (self .0) t ⌝ }
+    {
+        if 64 <= t {
+            return false;
+        }
+        (self.0 >> t) % 2 == 1
+    }
+
+    // The set with state t; a state of 64 or more changes nothing.
+    pub fn add(self, t: usize) -> Self
+        ensures { λ r. ⌜ r .0 ≡ addBit (self .0) t ⌝ }
+    {
+        if 64 <= t {
+            return self;
+        }
+        Row(self.0 | (1 << t))
+    }
+
+    // The set without state t; a state of 64 or more changes nothing.
+    pub fn remove(self, t: usize) -> Self
+        ensures { λ r. ⌜ r .0 ≡ removeBit (self .0) t ⌝ }
+    {
+        if 64 <= t {
+            return self;
+        }
+        Row(self.0 ^ (self.0 & (1 << t)))
+    }
+
+    // The states that are in both sets.
+    pub fn intersect(self, other: Row) -> Self
+        ensures { λ r. ⌜ r .0 ≡ bitAnd (self .0) (other .0) ⌝ }
+    {
+        Row(self.0 & other.0)
+    }
+
+    // How many states are in the set.
+    pub fn count(self) -> usize
+        ensures { λ r. ⌜ r ≡ countBits (self .0) ⌝ }
+    {
+        u64::count_ones(self.0) as usize
+    }
+
+    // The smallest state of the set, and 64 where it has none.
+    pub fn first(self) -> usize
+        ensures { λ r. ⌜ r ≡ firstBit (self .0) ⌝ }
+    {
+        u64::trailing_zeros(self.0) as usize
+    }
+
+    // The set in the 8 bytes of s from at on, the high byte first; past the end stand zeros.
+    pub fn read(s: &[u8], at: usize) -> Self
+        ensures { λ r. ⌜ r .0 ≡ bigEndian (now (s .entry)) at 8 ⌝ }
+    {
+        Row(lists::read_be64(s, at))
+    }
+
+    // Writes the set over the first 8 bytes of the output, the high byte first; a shorter output stays as it is.
+    pub fn write(self, output: &mut [u8])
+        ensures { λ _. ⌜ now (output .exit) ≡ putFront (bigBytes 8 (self .0)) (now (output .entry)) ⌝ }
+    {
+        if output.len() < 8 {
+            return;
+        }
+        let mut x = self.0;
+        let mut i: usize = 8;
+        while 0 < i {
+            i -= 1;
+            output[i] = (x % 256) as u8;
+            x /= 256;
+        }
+    }
+}
