@@ -10,7 +10,7 @@ use native.Mathlib.Omega.{arith}
 use native.Mathlib.Decide.{ℕ-discrete}
 use lib.Arith.{digits-div, digits-mod, digits-lt}
 use lib.ListN.{length, take, drop, getD, set, length-append, length-drop, length-set, drop-of-length-le, List·getD-append, List·getD-eq-default}
-use lib.Seq.{getD-set-same, getD-set-other, getD-at, getD-append-add, ext-getD, set-at, drop-cons, take-at, drop-at, drop-length}
+use lib.Seq.{getD-set-same, getD-set-other, getD-at, getD-append-add, ext-getD, set-at, drop-cons, take-at, drop-at, drop-length, take-nil, take-all, getD-take, getD-drop}
 use borrow.Author.Count.{below-more}
 use borrow.Author.Tests.{le-leb, lt-leb}
 use borrow.Rule.Slice.PartMut.{putMid, midOf, post-is, mid-len}
@@ -253,3 +253,17 @@ columns-all {n} {m} {t} {f} {l} w e p h = grid-cells n m f l p h (λ s x a b. w 
 
 pub part-length : (l : List ℕ) (a m : ℕ) → a + m ≤ length l → length (part l a (a + m)) ≡ m
 part-length l a m h = mid-len a (a + m) l h ∙ omega arith
+
+-- a part that begins past the end, or that ends where it begins, is empty, and one that ends past the end is the rest
+pub part-past : (l : List ℕ) (a e : ℕ) → length l ≤ a → part l a e ≡ []
+part-past l a e h = ap (take (e - a)) (drop-of-length-le l h) ∙ take-nil (e - a)
+
+pub part-none : (l : List ℕ) (a e : ℕ) → e ≤ a → part l a e ≡ []
+part-none l a e h = ap (λ (k : ℕ). take k (drop a l)) (let z : e - a ≡ 0 = omega arith in z)
+
+pub part-rest : (l : List ℕ) (a e : ℕ) → length l ≤ e → part l a e ≡ drop a l
+part-rest l a e h = take-all (e - a) (drop a l) (rw length-drop (omega arith))
+
+-- what stands in a part
+pub getD-part : (l : List ℕ) (a e i : ℕ) → a + i < e → getD (part l a e) i 0 ≡ getD l (a + i) 0
+getD-part l a e i h = getD-take (e - a) (drop a l) i 0 (omega arith) ∙ getD-drop a l i 0

@@ -1,6 +1,7 @@
-// Total reads of bytes and of numbers in bytes, for every slice and every index.
+// Total reads of bytes, of numbers in bytes and of parts, for every slice and every index.
 ghost use mathlib.Core.Path.{_≡_};
 ghost use Prim.Native.Nat.{_+_, _^_, _≤_, _<_};
+ghost use Rattle.lists.specs.Lists.{part};
 ghost use Rattle.lists.specs.Numbers.{byteAt, bigEndian};
 
 // A byte as a usize.
@@ -68,4 +69,21 @@ pub fn read_be64(s: &[u8], at: usize) -> u64
     ensures { λ r. ⌜ r ≡ bigEndian (now (s .entry)) at 8 ⌝ }
 {
     number(s, at, 8)
+}
+
+// The bytes from a up to e, as far as there are any.
+pub fn part_of(s: &[u8], a: usize, e: usize) -> &[u8]
+    ensures { λ r. ⌜ now r ≡ part (now (s .entry)) a e ⌝ }
+{
+    if s.len() <= a {
+        let n = s.len();
+        return &s[n..];
+    }
+    if e <= a {
+        return &s[a..a];
+    }
+    if s.len() <= e {
+        return &s[a..];
+    }
+    &s[a..e]
 }
