@@ -56,7 +56,7 @@ module _ (v : View) where
         j,
         mid-all P J j _ a,
         any-i _ _ (length K) (f .small′)
-            (run-matches v j t K k _ q (f .inside′) (rw (mid-step s J j _ p) (last-all (λ x. All (λ y. T (related x y)) (t ∷ map (other .to) K)) s J (f .all-related) .1)) (l .0) (l .1 .all-related .0 .0)),
+            (run-matches v j t K k _ q (f .inside′) (rw (mid-step s J j _ p) (last-all (λ x. All (λ y. T (related x y)) (t ∷ map (other .to) K)) s J (f .all-related))) (l .0) (l .1 .all-related .0 .0)),
       )
 
   pub cross : (P : ℕ → Type 0) (s t : ℕ) (J : List ℕ) → StepPath own s J → All P J → (x : Cut) × Fits v s J t x → Crossed P t J

@@ -15,7 +15,7 @@ use Rattle.bisimulation.specs.Judge.{is2a, accepts}
 use Rattle.bisimulation.specs.Maker.{matchesWithin, matched, distance, stutters, chainLength, stutterRank, matchRank, made, noneUnmatched, noneEndless, succeeds}
 use Rattle.bisimulation.specs.Systems.{View, flip, Bytes, WellFormed}
 use Rattle.bisimulation.proofs.ClauseLaws.{flip-formed, pairs-e, initial-e, steps-e, is2a-e, labels-e, accepts-iff}
-use Rattle.bisimulation.proofs.RunLaws.{matched-e, inChain, chain-step}
+use Rattle.bisimulation.proofs.RunLaws.{within-related, matched-e, inChain, chain-step}
 
 module _ (v : View) where
   open View v using (own, other, related, answers)
@@ -36,18 +36,18 @@ module _ (v : View) where
 
   pub match-rank-le : (j k t : ℕ) → k < other .states → T (matchesWithin v j k t) → matchRank v j t ≤ k
   unfolding matchRank distance
-  match-rank-le j k t l h = cond-upto (related (own .from j) t && matched v j t) (distance v j t) k λ _. first-le _ (λ i. matchesWithin v j i t) k l h
+  match-rank-le j k t l h = cond-upto (matched v j t) (distance v j t) k λ _. first-le _ (λ i. matchesWithin v j i t) k l h
 
-  match-rank-is : (j t : ℕ) → T (related (own .from j) t) → T (matched v j t) → matchRank v j t ≡ distance v j t
+  match-rank-is : (j t : ℕ) → T (matched v j t) → matchRank v j t ≡ distance v j t
   unfolding matchRank
-  match-rank-is j t r h = cond-true (related (own .from j) t && matched v j t) (distance v j t) 0 (and-i (related (own .from j) t) (matched v j t) r h)
+  match-rank-is j t h = cond-true (matched v j t) (distance v j t) 0 h
 
-  met-matched : (j t : ℕ) → T (related (own .from j) t) → T (matched v j t) → Meets v (made v) j t
+  met-matched : (j t : ℕ) → T (matched v j t) → Meets v (made v) j t
   unfolding matchesWithin
-  met-matched j t r h = go (distance v j t) refl (matched-e v j t h .1)
+  met-matched j t h = go (distance v j t) refl (matched-e v j t h .1)
     where
       go : (c : ℕ) → distance v j t ≡ c → T (matchesWithin v j c t) → Meets v (made v) j t
-      go zero e p = inl (is2a-e v j t p)
+      go zero e p = inl (is2a-e v j t (and-r (related (own .from j) t) _ p))
       go (suc k) e p =
           ⊎-elim (λ a. inl (is2a-e v j t a))
           (λ b. let q = any-e _ _ b in let d = q .2 in
@@ -56,10 +56,10 @@ module _ (v : View) where
             q .1,
             eqb→eq _ _ (search (and-l, and-r)),
             search (and-l, and-r),
-            search (and-l, and-r),
-            omega (arith, match-rank-is j t r h, match-rank-le j k (other .to (q .0)) (omega (arith, matched-e v j t h .0)) (search (and-l, and-r))),
+            within-related v j k (other .to (q .0)) (search (and-l, and-r)),
+            omega (arith, match-rank-is j t h, match-rank-le j k (other .to (q .0)) (omega (arith, matched-e v j t h .0)) (search (and-l, and-r))),
           )))
-          (or-e (is2a v j t) _ p)
+          (or-e (is2a v j t) _ (and-r (related (own .from j) t) _ p))
 
   met-stuttering : (j t : ℕ) → j < own .steps → T (stutters v t j) → chainLength v t (own .states) (own .to j) < own .states → T (related (own .from j) t)
       → Meets v (made v) j t
@@ -77,7 +77,7 @@ module _ (v : View) where
     side-met : EveryObligation Meets v (made v)
     unfolding noneUnmatched noneEndless stutters
     side-met j t l r =
-        ⊎-elim (λ h. met-matched j t r h)
+        ⊎-elim (λ h. met-matched j t h)
         (λ h.
         let g = ⊎-elim (λ g. absurd (h g)) (λ g. g) (or-e (matched v j t) _ (steps-e v (own .from j) _ (pairs-e v w _ a (own .from j) t r) j l refl)) in
         let u : T (related (own .to j) t) = and-r (own .silent j) (related (own .to j) t) g in
@@ -90,8 +90,7 @@ module _ (v : View) where
     unfolding stutterRank matchRank noneEndless
     ranks-small N p m n = (
       λ s t. ⊎-elim (λ h. rw (cond-true (related s t) _ _ h) (omega (arith, ltb→lt (chainLength v t (own .states) s) (own .states) (pairs-e v w _ b s t h)))) (λ h. rw (cond-false (related s t) _ _ h) p) (T-dec (related s t)),
-      λ j t. let q = related (own .from j) t && matched v j t in
-          ⊎-elim (λ h. rw (cond-true q _ _ h) (omega (arith, matched-e v j t (and-r (related (own .from j) t) (matched v j t) h) .0))) (λ h. rw (cond-false q _ _ h) p) (T-dec q),
+      λ j t. ⊎-elim (λ h. rw (cond-true (matched v j t) _ _ h) (omega (arith, matched-e v j t h .0))) (λ h. rw (cond-false (matched v j t) _ _ h) p) (T-dec (matched v j t)),
     )
 
 module _ (v : View) (w : WellFormed v) (h : T (succeeds v)) where

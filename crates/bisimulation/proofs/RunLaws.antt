@@ -29,11 +29,18 @@ module _ (v : View) where
 
   -- a stretch of silent steps K from t, then k, is a run that matches j
   pub run-matches : (j t : ℕ) (K : List ℕ) (k : ℕ) (L : List ℕ) → StepPath other t (K ++ (k ∷ L)) → All (λ e. T (other .silent e)) K
-      → All (λ y. T (related (own .from j) y)) (map (other .to) K) → T (answers j k) → T (related (own .to j) (other .to k)) → T (matchesWithin v j (length K) t)
+      → All (λ y. T (related (own .from j) y)) (t ∷ map (other .to) K) → T (answers j k) → T (related (own .to j) (other .to k)) → T (matchesWithin v j (length K) t)
   unfolding matchesWithin
-  run-matches j t [] k L p q a b c = is2a-i v j t (k, p .0, p .1, b, c)
+  run-matches j t [] k L p q a b c = and-i (related (own .from j) t) (is2a v j t) (a .0) (is2a-i v j t (k, p .0, p .1, b, c))
   run-matches j t (e ∷ K) k L p q a b c =
-      or-r (is2a v j t) _ (any-i _ _ e (p .0) (let r = run-matches j (other .to e) K k L (p .2) (q .1) (a .1) b c in search (and-i, eq→eqb)))
+      and-i (related (own .from j) t) _ (a .0)
+      (or-r (is2a v j t) _ (any-i _ _ e (p .0) (let r = run-matches j (other .to e) K k L (p .2) (q .1) (a .1) b c in search (and-i, eq→eqb))))
+
+  -- the state where a run begins is related to the one that j leaves
+  pub within-related : (j k t : ℕ) → T (matchesWithin v j k t) → T (related (own .from j) t)
+  unfolding matchesWithin
+  within-related j zero t h = and-l (related (own .from j) t) _ h
+  within-related j (suc k) t h = and-l (related (own .from j) t) _ h
 
   pub matched-e : (j t : ℕ) → T (matched v j t) → (distance v j t < other .states) × T (matchesWithin v j (distance v j t) t)
   unfolding matched distance
@@ -69,17 +76,20 @@ module _ (v : View) (w : WellFormed v) (j : ℕ) where
     low′ : length K ≤ lower (other .states) (rounds N) (rounds N y)
 
   abbrev Unrolling : ℕ → ℕ → Type 0
-  Unrolling N M = (y : ℕ) → rounds N y < M → T (related (own .from j) y) → rounds N y ≤ N → T (matchesWithin v j (rounds N y) y) → Unrolled N y
+  Unrolling N M = (y : ℕ) → rounds N y < M → rounds N y ≤ N → T (matchesWithin v j (rounds N y) y) → Unrolled N y
 
   unroll-at : (N M : ℕ) → Unrolling N M → Unrolling N (suc M)
   unfolding matchesWithin
-  unroll-at N M rec y l p g h = go (rounds N y) refl h
+  unroll-at N M rec y l g h = go (rounds N y) refl h
     where
+      p : T (related (own .from j) y)
+      p = within-related v j (rounds N y) y h
+
       at-once : T (is2a v j y) → Unrolled N y
       at-once a = let q = is2a-e v j y a in record { K = []; is = record { last = q .0; path = (q .1, q .2, tt); inside = tt; related = (p, tt); answers = q .3; meets = q .4 }; short = zero-le; low′ = zero-le }
 
       go : (c : ℕ) → rounds N y ≡ c → T (matchesWithin v j c y) → Unrolled N y
-      go zero e r = at-once r
+      go zero e r = at-once (and-r (related (own .from j) y) _ r)
       go (suc c) e r =
           ⊎-elim at-once
           (λ a.
@@ -88,29 +98,29 @@ module _ (v : View) (w : WellFormed v) (j : ℕ) where
           let b = q .2 in
           let x : T (matchesWithin v j c (other .to k)) = search (and-l, and-r) in
           let m = first-le (suc N) (λ i. matchesWithin v j i (other .to k)) c (omega arith) x in
-          let i = rec (other .to k) (omega arith) (search (and-l, and-r)) (omega arith) (first-at (suc N) (λ i. matchesWithin v j i (other .to k)) c (omega arith) x) in
+          let i = rec (other .to k) (omega arith) (omega arith) (first-at (suc N) (λ i. matchesWithin v j i (other .to k)) c (omega arith) x) in
           record {
             K = k ∷ i .K;
             is = record { last = i .is .last; path = (q .1, eqb→eq _ _ (search (and-l, and-r)), i .is .path); inside = (search (and-l, and-r), i .is .inside); related = (p, i .is .related); answers = i .is .answers; meets = i .is .meets };
             short = omega (arith, i .short);
             low′ = omega (arith, i .low′, lower-falls (other .states) (rounds N) (rounds N y) (other .to k) (w .there .to< k (q .1)) (omega arith));
           })
-          (or-e (is2a v j y) _ r)
+          (or-e (is2a v j y) _ (and-r (related (own .from j) y) _ r))
 
   unroll : (N M : ℕ) → Unrolling N M
-  unroll N zero y l p g h = absurd (not-suc-le-zero l)
-  unroll N (suc M) y l p g h = unroll-at N M (λ z. unroll N M z) y l p g h
+  unroll N zero y l g h = absurd (not-suc-le-zero l)
+  unroll N (suc M) y l g h = unroll-at N M (λ z. unroll N M z) y l g h
 
-  module _ (t : ℕ) (p : T (related (own .from j) t)) where
+  module _ (t : ℕ) where
     -- a match within N rounds gives a run of at most N steps inside, and fewer than the other side's states
     pub shorten : (N : ℕ) → T (matchesWithin v j N t) → (K : List ℕ) × MatchingRun v j t K × (length K ≤ N) × (length K < other .states)
     shorten N h =
         let m = first-le (suc N) (λ i. matchesWithin v j i t) N (le-refl _) h in
-        let u = unroll N (suc N) t (omega arith) p m (first-at (suc N) (λ i. matchesWithin v j i t) N (le-refl _) h) in
-        (u .K, u .is, omega (arith, u .short), omega (arith, u .low′, lower-bound (other .states) (rounds N) t (w .there .related< t (own .from j) p)))
+        let u = unroll N (suc N) t (omega arith) m (first-at (suc N) (λ i. matchesWithin v j i t) N (le-refl _) h) in
+        (u .K, u .is, omega (arith, u .short), omega (arith, u .low′, lower-bound (other .states) (rounds N) t (w .there .related< t (own .from j) (within-related v j N t h))))
 
     matches-run : (K : List ℕ) → MatchingRun v j t K → T (matchesWithin v j (length K) t)
-    matches-run K l = run-matches v j t K (l .last) [] (l .path) (l .inside) (l .related .1) (l .answers) (l .meets)
+    matches-run K l = run-matches v j t K (l .last) [] (l .path) (l .inside) (l .related) (l .answers) (l .meets)
 
     -- where there is a run, the obligation is matched, and the distance is at most the run's steps inside
     pub run-matched : (K : List ℕ) → MatchingRun v j t K → T (matched v j t) × (distance v j t ≤ length K)

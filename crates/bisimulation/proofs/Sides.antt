@@ -15,16 +15,15 @@ use native.Mathlib.Decide.{decLt}
 use lib.Dec.{T, T-not, lt→ltb}
 use lib.ListN.{length}
 use Rattle.lists.specs.Lists.{All}
-use Rattle.lists.proofs.BelowLaws.{any-i}
-use Rattle.lists.proofs.BoolLaws.{and-l, and-r, and-i, or-l, or-r, T-dec, eq→eqb}
-use Rattle.bisimulation.specs.Judge.{is2a}
-use Rattle.bisimulation.specs.Maker.{matchesWithin, matched, stutters, chainLength, noneUnmatched, noneEndless}
+use Rattle.lists.proofs.BoolLaws.{and-l, and-r, and-i, or-l, or-r, T-dec}
+use Rattle.bisimulation.specs.Maker.{matched, stutters, chainLength, noneUnmatched, noneEndless}
 use Rattle.bisimulation.specs.Namjoshi.{NoDescent, Clause2a, Clause2b, Clause2c, State, joint, Related, Bisimulation}
+use Rattle.bisimulation.specs.Runs.{MatchingRun}
 use Rattle.bisimulation.specs.StepPaths.{StepPath}
 use Rattle.bisimulation.specs.Systems.{System, Step, View, flip, WellFormed, Plain}
-use Rattle.bisimulation.proofs.ClauseLaws.{pairs-i, steps-i, is2a-i}
+use Rattle.bisimulation.proofs.ClauseLaws.{pairs-i, steps-i}
 use Rattle.bisimulation.proofs.Pigeonhole.{no-walk, pigeon}
-use Rattle.bisimulation.proofs.RunLaws.{shorten, run-matched, chain-some}
+use Rattle.bisimulation.proofs.RunLaws.{run-matched, chain-some}
 
 -- one of the three clauses, in the joint system
 abbrev JointMeets {ℓ κ} : (v : View) {W : Type ℓ} → (W → W → Type κ) → (joint v .S → joint v .S → joint v .S → W) → joint v .S → joint v .S → joint v .S → Type κ
@@ -139,8 +138,13 @@ module _ (v : View) (t : ℕ) where
 module _ {ℓ κ} (v : View) (w : WellFormed v) (k : Plain v) {W : Type ℓ} (≺ : W → W → Type κ) (nd : NoDescent ≺) (ρ : State (v .own) → State (v .own) → State (v .other) → W) (O : OneSide v ≺ ρ) where
   open View v using (own, other, related)
 
-  plain-2a : (j t : ℕ) → (x : ℕ) × Step other t x × T (related (own .to j) x) → T (is2a v j t)
-  plain-2a j t (x, e, h) = is2a-i v j t (e .0, e .1, e .2, k .answers j (e .0), subst (λ y. T (related (own .to j) y)) (sym (e .3)) h)
+  -- an answer at t is a run with no step inside, and a step before a run makes a longer one
+  one-run : (j t : ℕ) → T (related (own .from j) t) → (x : ℕ) × Step other t x × T (related (own .to j) x) → MatchingRun v j t []
+  one-run j t h (x, e, g) = record { last = e .0; path = (e .1, e .2, tt); inside = tt; related = (h, tt); answers = k .answers j (e .0); meets = rw (e .3) g }
+
+  longer-run : (j y x : ℕ) (K : List ℕ) → T (related (own .from j) y) → (e : Step other y x) → MatchingRun v j x K → MatchingRun v j y (e .0 ∷ K)
+  longer-run j y x K h e r =
+      record { last = r .last; path = (e .1, e .2, rw (e .3) (r .path)); inside = (k .silent′ (e .0), r .inside); related = (h, rw (e .3) (r .related)); answers = r .answers; meets = r .meets }
 
   module _ (j : ℕ) (l : j < own .steps) where
     abbrev s₀ : State own
@@ -149,27 +153,22 @@ module _ {ℓ κ} (v : View) (w : WellFormed v) (k : Plain v) {W : Type ℓ} (�
     abbrev u₀ : State own
     u₀ = (own .to j, w .here .to< j l)
 
-    -- no list from y matches, and u is not related to y: only 2c is left, and leads to another such state
+    -- no run from this state matches j, and u is not related to it: only 2c is left, and leads to another such state
     record Stuck : Type 0 where
       at : State other
       here : T (related (own .from j) (at .0))
-      never : (i : ℕ) → T (matchesWithin v j i (at .0)) → ⊥
+      never : (K : List ℕ) → MatchingRun v j (at .0) K → ⊥
       apart : T (related (own .to j) (at .0)) → ⊥
 
-    match-next : (i : ℕ) (y x : ℕ) → Step other y x → T (related (own .from j) x) → T (matchesWithin v j i x) → T (matchesWithin v j (suc i) y)
-    unfolding matchesWithin
-    match-next i y x e h p = or-r (is2a v j y) _ (any-i _ _ (e .0) (e .1) (let q = k .silent′ (e .0) in let a = e .2 in rw (e .3) (search (and-i, eq→eqb))))
-
     stuck-next : (x : Stuck) → (y : Stuck) × ≺ (ρ u₀ s₀ (y .at)) (ρ u₀ s₀ (x .at))
-    unfolding matchesWithin
     stuck-next x =
-        ⊎-elim (λ a. absurd (x .never 0 (plain-2a j (x .at .0) (a .0 .0, a .1, a .2))))
+        ⊎-elim (λ a. absurd (x .never [] (one-run j (x .at .0) (x .here) (a .0 .0, a .1, a .2))))
         (λ a. ⊎-elim (λ b. absurd (x .apart (b .0))) (λ b. let c = b .1 in (
           record {
             at = c .0;
             here = c .2;
-            never = λ i p. x .never (suc i) (match-next i (x .at .0) (c .0 .0) (c .1) (c .2) p);
-            apart = λ p. x .never 0 (plain-2a j (x .at .0) (c .0 .0, c .1, p));
+            never = λ K r. x .never (c .1 .0 ∷ K) (longer-run j (x .at .0) (c .0 .0) K (x .here) (c .1) r);
+            apart = λ p. x .never [] (one-run j (x .at .0) (x .here) (c .0 .0, c .1, p));
           },
           c .3,
         )) a)
@@ -178,18 +177,18 @@ module _ {ℓ κ} (v : View) (w : WellFormed v) (k : Plain v) {W : Type ℓ} (�
     not-stuck : Stuck → ⊥
     not-stuck = no-walk ≺ nd (λ x. ρ u₀ s₀ (x .at)) stuck-next
 
-    within-matched : (t i : ℕ) → T (related (own .from j) t) → T (matchesWithin v j i t) → T (matched v j t)
-    within-matched t i h p = let q = shorten v w j t h i p in run-matched v w j t h (q .0) (q .1) .0
-
-    duty22 : (t : ℕ) → T (related (own .from j) t) → T (matched v j t || own .silent j && related (own .to j) t)
-    duty22 t h =
+    obligation-passes : (t : ℕ) → T (related (own .from j) t) → T (matched v j t || own .silent j && related (own .to j) t)
+    obligation-passes t h =
         ⊎-elim (λ a. or-l (matched v j t) _ a)
-        (λ a. ⊎-elim (λ b. or-r (matched v j t) _ (let c = k .silent j in search and-i)) (λ b. absurd (not-stuck (record { at = (t, w .there .related< t (own .from j) h); here = h; never = λ i p. a (within-matched t i h p); apart = b }))) (T-dec (related (own .to j) t)))
+        (λ a.
+        ⊎-elim (λ b. or-r (matched v j t) _ (let c = k .silent j in search and-i))
+        (λ b. absurd (not-stuck (record { at = (t, w .there .related< t (own .from j) h); here = h; never = λ K r. a (run-matched v w j t K r .0); apart = b })))
+        (T-dec (related (own .to j) t)))
         (T-dec (matched v j t))
 
   pub side-none-unmatched : T (noneUnmatched v)
   unfolding noneUnmatched
-  side-none-unmatched = pairs-i v _ λ s t r. steps-i v s _ λ j l e. duty22 j l t (rw e r)
+  side-none-unmatched = pairs-i v _ λ s t r. steps-i v s _ λ j l e. obligation-passes j l t (rw e r)
 
   module _ (s t : ℕ) (h : T (related s t)) (J : List ℕ) (p : StepPath own s J) (a : All (λ j. T (stutters v t j)) J) (long : own .states ≤ length J) where
     abbrev t₁ : State other
@@ -198,14 +197,14 @@ module _ {ℓ κ} (v : View) (w : WellFormed v) (k : Plain v) {W : Type ℓ} (�
     abbrev on : ℕ → State own
     on i = (visit own s J i, w .here .related< _ t (visit-rel v t J s h a i))
 
-    unmatched : (j : ℕ) → T (stutters v t j) → T (is2a v j t) → ⊥
-    unfolding stutters matched matchesWithin
-    unmatched j b c = T-not (matched v j t) (search (and-l, and-r)) (any-i (other .states) (λ i. matchesWithin v j i t) 0 (omega (arith, w .there .related< t s h)) c)
+    unmatched : (j : ℕ) → T (stutters v t j) → MatchingRun v j t [] → ⊥
+    unfolding stutters
+    unmatched j b r = T-not (matched v j t) (search (and-l, and-r)) (run-matched v w j t [] r .0)
 
     falls : (i : ℕ) → i < own .states → ≺ (ρ (on (suc i)) (on (suc i)) t₁) (ρ (on i) (on i) t₁)
     falls i l =
         let q = visit-step v t J s p a i (omega arith) in
-        ⊎-elim (λ b. absurd (unmatched (q .0) (q .4) (plain-2a (q .0) t (b .0 .0, b .1, rw (q .3) (b .2)))))
+        ⊎-elim (λ b. absurd (unmatched (q .0) (q .4) (one-run (q .0) t (rw (q .2) (visit-rel v t J s h a i)) (b .0 .0, b .1, rw (q .3) (b .2)))))
         (λ b. ⊎-elim (λ c. c .1) (λ c. absurd (c .0 (visit-rel v t J s h a (suc i)))) b)
         (O (on i) t₁ (visit-rel v t J s h a i) (on (suc i)) (q .0, q .1, q .2, q .3))
 

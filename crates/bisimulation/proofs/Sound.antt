@@ -127,7 +127,7 @@ module _ (v : View) (r : Ranks) (w : WellFormed v) (D : EveryObligation Meets v 
       → T (other .silent k) × T (related s (other .to k)) × (r .stutter′ (other .to k) s < r .stutter′ t s)
   terminal-2b s t h d k l e =
       ⊎-elim (λ q. absurd (d (q .0) (q .1) (q .2)))
-      (λ c. ⊎-elim (λ b. rw e at b) (λ q. absurd (d (q .0) (q .1) (q .2))) c)
+      (λ c. ⊎-elim (λ b. let q = rw e at b in (q .0, q .1, q .2)) (λ q. absurd (d (q .0) (q .1) (q .2))) c)
       (D′ k s l (rw e h))
 
   -- it fits, and the first block has one own state, or one of the other's, and few of the opposite

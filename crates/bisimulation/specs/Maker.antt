@@ -7,14 +7,15 @@ use Rattle.lists.specs.Below.{anyBelow, mostBelow, firstBelow}
 use Rattle.bisimulation.specs.Systems.{View, Ranks, flip}
 use Rattle.bisimulation.specs.Judge.{is2a, allPairs, allStepsFrom, initialRelated, labelsEqual}
 
--- A list from t with at most k silent steps inside, the states after t related to the state that j leaves, whose last state has a step that answers j.
+-- A list of states, t first, with at most k steps inside, each silent, all related to the state that j leaves, whose last state has a step that
+-- answers j and enters a state related to the one that j enters.
 unfoldable pub matchesWithin : View → ℕ → ℕ → ℕ → Bool
-matchesWithin v j zero t = is2a v j t
+matchesWithin v j zero t = v .related (v .own .from j) t && is2a v j t
 matchesWithin v j (suc k) t =
-    is2a v j t
-    || anyBelow (v .other .steps) (λ e. eqb (v .other .from e) t && v .other .silent e && v .related (v .own .from j) (v .other .to e) && matchesWithin v j k (v .other .to e))
+    v .related (v .own .from j) t
+    && (is2a v j t || anyBelow (v .other .steps) (λ e. eqb (v .other .from e) t && v .other .silent e && matchesWithin v j k (v .other .to e)))
 
--- The own step j is matched at t: fewer steps inside than the other side has states are enough.
+-- The own step j is matched at t; fewer steps inside than the other side has states are enough.
 unfoldable pub matched : View → ℕ → ℕ → Bool
 matched v j t = anyBelow (v .other .states) (λ k. matchesWithin v j k t)
 
@@ -38,7 +39,7 @@ stutterRank v s t = cond (v .related s t) (chainLength v t (v .own .states) s) 0
 
 -- The C rank that is written: the match distance of a matched obligation, else 0.
 unfoldable pub matchRank : View → ℕ → ℕ → ℕ
-matchRank v j t = cond (v .related (v .own .from j) t && matched v j t) (distance v j t) 0
+matchRank v j t = cond (matched v j t) (distance v j t) 0
 
 abbrev pub made : View → Ranks
 made v = record { stutter = stutterRank v; match = matchRank v; stutter′ = stutterRank (flip v); match′ = matchRank (flip v) }
