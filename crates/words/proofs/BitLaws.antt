@@ -1,16 +1,17 @@
 -- Laws of the bits of a word: which bits each operation leaves, what the machine's counts give, and that its bits make the word.
 -- Assumes nothing.
-use Prim.Native.Nat.{ℕ, zero, suc, _+_, _*_, _/_, _%_, _^_, _≤_, _<_, zero-le, suc-le-suc}
+use Prim.Native.Nat.{ℕ, zero, suc, _+_, _*_, _/_, _%_, _^_, _-_, _≤_, _<_, zero-le, suc-le-suc}
 use mathlib.Core.Path.{_≡_, refl, sym, ap, ap₂, _∙_, subst}
+use mathlib.Core.Logic.{⊎-elim}
 use mathlib.Core.List.{List}
 use mathlib.Core.Bool.{Bool, true, false, cond, not, _&&_, _||_, false≢true}
 use native.Mathlib.Nat.{div-one, div-eq-of-lt, zero-div, mod-lt, mul-mod-left, mod-eq-of-lt, one-mul, lt-of-lt-of-le, lt-of-le-of-lt, zero-lt-suc, le-of-suc-le-suc, not-suc-le-zero, pow-suc, mul-div-cancel, div-add-mod'}
 use native.Mathlib.Numerals.{one-add, add-one}
 use native.Mathlib.Omega.{arith}
 use native.Mathlib.Decide.{decLt}
-use lib.Dec.{T, eqb, ltb, eqb-refl, eqb·zero-suc, eqb·suc-zero, eqb·suc-suc}
+use lib.Dec.{T, T-not, not-T, leb, leb→le, le→leb, eqb→eq, eqb, ltb, eqb-refl, eqb·zero-suc, eqb·suc-zero, eqb·suc-suc}
 use lib.Bits.{bitAnd, bitOr, bitXor, and-shr, or-shr, xor-shr, and-mod, or-mod, xor-mod, and-le-l, or-lt, xor-lt}
-use lib.Pow.{pow-mono, pow-lt, shr-shr, shr-lt}
+use lib.Pow.{pow-mono, pow-lt, shr-shr, shr-lt, shr-le}
 use lib.Arith.{lt-one}
 use lib.Count.{ones, ones-step, trailingZeros, under}
 use lib.ListN.{length}
@@ -18,11 +19,11 @@ use borrow.Author.Tests.{ltb-true, ltb-false, eqb-true, lt-ltb, ne-eqb}
 use Rattle.lists.specs.Below.{firstBelow, sumBelow, countBelow}
 use Rattle.lists.specs.Lists.{putFront}
 use Rattle.lists.specs.Numbers.{bigEndian, bigBytes}
-use Rattle.lists.proofs.BoolLaws.{T-true, false-not-T}
+use Rattle.lists.proofs.BoolLaws.{and-l, and-r, and-i, T-dec, T-true, not-T-false, false-not-T, same-T, eq→eqb}
 use Rattle.lists.proofs.BelowLaws as below
 use Rattle.lists.proofs.FillLaws.{put-front-fits}
 use Rattle.lists.proofs.NumberLaws.{length-bytes, bytes-back}
-use Rattle.words.specs.Bits.{hasBit, addBit, removeBit, countBits, firstBit}
+use Rattle.words.specs.Bits.{hasBit, hasFrom, addBit, removeBit, countBits, firstBit}
 
 two-pos : zero < 2
 two-pos = zero-lt-suc 1
@@ -237,6 +238,53 @@ numbers-equal (suc k) x y h l same =
 -- words with the same bits are equal
 pub words-equal : (x y : ℕ) → x < 2 ^ 64 → y < 2 ^ 64 → ((t : ℕ) → t < 64 → hasBit x t ≡ hasBit y t) → x ≡ y
 words-equal x y = numbers-equal 64 x y
+
+-- ---- bits of n or more
+
+-- the bits from n on are those of the word shifted down by n
+pub has-shift : (x n t : ℕ) → hasBit (x / 2 ^ n) t ≡ hasBit x (n + t)
+unfolding hasBit
+has-shift x n t = ap (λ (k : ℕ). eqb (k % 2) 1) (shr-shr x n t)
+
+-- a word that has no state of n or more has only states below n
+pub from-none : (x n : ℕ) → (T (hasFrom x n) → ⊥) → x < 2 ^ 64 → (t : ℕ) → T (hasBit x t) → t < n
+unfolding hasFrom
+from-none x n none h t b = elim (decLt t n) [
+  | yes p ↦ p
+  | no q ↦ absurd (none (below.any-i 64 _ t (has-lt x t h b) (and-i (leb n t) (hasBit x t) (le→leb n t (omega arith)) b)))
+]
+
+-- a word with only states below n has no state of n or more
+pub none-from : (x n : ℕ) → ((t : ℕ) → T (hasBit x t) → t < n) → T (hasFrom x n) → ⊥
+unfolding hasFrom
+none-from x n small h =
+    let r = below.any-e 64 _ h in
+    let l = leb→le n (r .0) (and-l (leb n (r .0)) _ (r .2)) in
+    let k = small (r .0) (and-r (leb n (r .0)) _ (r .2)) in
+    omega arith
+
+-- no state is 64 or more
+pub from-64 : (x n : ℕ) → x < 2 ^ 64 → 64 ≤ n → hasFrom x n ≡ false
+from-64 x n h l = not-T-false (hasFrom x n) (none-from x n (λ t b. omega (arith, has-lt x t h b)))
+
+-- a state of n or more is told by the word shifted down by n
+pub from-shift : (x n : ℕ) → x < 2 ^ 64 → hasFrom x n ≡ not (eqb (x / 2 ^ n) 0)
+from-shift x n h = same-T (hasFrom x n) (not (eqb (x / 2 ^ n) 0)) some zero-or
+  where
+    some : T (hasFrom x n) → T (not (eqb (x / 2 ^ n) 0))
+    some b = not-T (eqb (x / 2 ^ n) 0) (λ z.
+        let e = eqb→eq (x / 2 ^ n) 0 z in
+        none-from x n (λ t c. elim (decLt t n) [
+          | yes p ↦ p
+          | no q ↦
+              let d : n + (t - n) ≡ t = omega arith in
+              absurd (false-not-T (hasBit 0 (t - n)) (has-empty (t - n)) (subst (λ (k : ℕ). T (hasBit k (t - n))) e (rw (has-shift x n (t - n), d) c)))
+        ]) b)
+
+    zero-or : T (not (eqb (x / 2 ^ n) 0)) → T (hasFrom x n)
+    zero-or b = ⊎-elim (λ c. c) (λ none. absurd (T-not (eqb (x / 2 ^ n) 0) b (eq→eqb (x / 2 ^ n) 0
+        (words-equal (x / 2 ^ n) 0 (lt-of-le-of-lt (shr-le x n) h) (zero-lt-suc _)
+        (λ t l. has-shift x n t ∙ not-T-false (hasBit x (n + t)) (λ c. omega (arith, from-none x n none h (n + t) c)) ∙ sym (has-empty t)))))) (T-dec (hasFrom x n))
 
 -- ---- one state less
 

@@ -1,9 +1,9 @@
 -- The bits of a word of 64: a set of states. Document 01's rows are such words: s and t are related when row s has the bit of weight 2 to the power t.
 use Prim.Native.Nat.{ℕ, _/_, _%_, _^_}
-use mathlib.Core.Bool.{Bool, cond}
-use lib.Dec.{ltb, eqb}
+use mathlib.Core.Bool.{Bool, cond, _&&_}
+use lib.Dec.{leb, ltb, eqb}
 use lib.Bits.{bitAnd, bitOr, bitXor}
-use Rattle.lists.specs.Below.{firstBelow, countBelow}
+use Rattle.lists.specs.Below.{anyBelow, firstBelow, countBelow}
 
 -- Whether the word has the bit of weight 2 to the power t.
 unfoldable pub hasBit : ℕ → ℕ → Bool
@@ -16,6 +16,10 @@ addBit x t = cond (ltb t 64) (bitOr x (2 ^ t)) x
 -- The word without state t. A state of 64 or more changes nothing.
 unfoldable pub removeBit : ℕ → ℕ → ℕ
 removeBit x t = cond (ltb t 64) (bitXor x (bitAnd x (2 ^ t))) x
+
+-- Whether the word has a state of n or more.
+unfoldable pub hasFrom : ℕ → ℕ → Bool
+hasFrom x n = anyBelow 64 (λ t. leb n t && hasBit x t)
 
 -- How many states the word has.
 unfoldable pub countBits : ℕ → ℕ

@@ -3,7 +3,7 @@ ghost use mathlib.Core.Path.{_≡_};
 ghost use lib.Bits.{bitAnd};
 ghost use Rattle.lists.specs.Numbers.{bigEndian, bigBytes};
 ghost use Rattle.lists.specs.Lists.{putFront};
-ghost use Rattle.words.specs.Bits.{hasBit, addBit, removeBit, countBits, firstBit};
+ghost use Rattle.words.specs.Bits.{hasBit, hasFrom, addBit, removeBit, countBits, firstBit};
 
 // A set of states: state t is in it where the word has the bit of weight 2 to the power t.
 pub struct Row(pub u64);
@@ -24,6 +24,13 @@ impl Row {
             return false;
         }
         (self.0 >> t) % 2 == 1
+    }
+
+    // Whether a state of n or more is in the set.
+    pub fn has_from(self, n: usize) -> bool
+        ensures { λ r. ⌜ r ≡ hasFrom (self .0) n ⌝ }
+    {
+        if n < 64 { self.0 >> n != 0 } else { false }
     }
 
     // The set with state t; a state of 64 or more changes nothing.
