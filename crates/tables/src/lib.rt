@@ -1,0 +1,277 @@
+// The reader of state tables: for every byte string a header, or the one refusal whose condition and place in the order fit.
+use lists::byte;
+use lists::part_of;
+use lists::read_be16;
+use words::Row;
+ghost use mathlib.Core.Path.{_≡_};
+ghost use Prim.Native.Nat.{_<_};
+ghost use Rattle.lists.specs.Below.{firstBelow};
+ghost use Rattle.tables.specs.Table.{statesOf, stepsOf, readHead, readTable, labelsPart, stepsPart, labelOf, fromOf, toOf, endsOutside, doubled};
+ghost use Rattle.tables.specs.Answers.{tableAnswer};
+
+// What the header of a good table says; `initial` is the set of initial states.
+pub struct Head {
+    pub version: usize,
+    pub states: usize,
+    pub steps: usize,
+    pub initial: Row,
+}
+
+// Why a table is refused; the last two carry the first such step.
+pub enum TableRefusal {
+    Short,
+    Magic,
+    Version,
+    States,
+    Start,
+    Steps,
+    Length,
+    StepEnd(usize),
+    Doubled(usize),
+}
+
+pub enum TableRead {
+    Good(Head),
+    Refused(TableRefusal),
+}
+
+// The six numbers of an answer: code, file, a, b, c, d.
+pub struct Answer {
+    pub code: usize,
+    pub file: usize,
+    pub a: usize,
+    pub b: usize,
+    pub c: usize,
+    pub d: usize,
+}
+
+impl Head {
+    // The bytes of the header.
+    pub const BYTES: usize = 9;
+
+    // The most states of a table.
+    pub const MAX_STATES: usize = 64;
+
+    // The most steps of a table.
+    pub const MAX_STEPS: usize = 256;
+
+    // The version that is read.
+    pub const VERSION: u64 = 1;
+}
+
+impl TableRefusal {
+    // The six numbers of the refusal of the file with this number.
+    pub fn answer(self, file: usize) -> Answer
+        ensures { λ r. ⌜ r ≡ tableAnswer self file ⌝ }
+    {
+        let refusal = self;
+        let mut a: usize = 0;
+        let code: usize = match refusal {
+            TableRefusal::Short => 1,
+            TableRefusal::Magic => 2,
+            TableRefusal::Version => 3,
+            TableRefusal::States => 4,
+            TableRefusal::Start => 5,
+            TableRefusal::Steps => 6,
+            TableRefusal::Length => 7,
+            TableRefusal::StepEnd(j) => {
+                a = j;
+                8
+            }
+            TableRefusal::Doubled(j) => {
+                a = j;
+                9
+            }
+        };
+        Answer {
+            code,
+            file,
+            a,
+            b: 0,
+            c: 0,
+            d: 0,
+        }
+    }
+}
+
+// The number of states that the header gives.
+pub fn states(s: &[u8]) -> usize
+    ensures value { λ r. ⌜ r ≡ statesOf (now (s .entry)) ⌝ }
+    ensures small { λ r. ⌜ r < 256 ⌝ }
+{
+    byte(s, 5)
+}
+
+// The number of steps that the header gives.
+pub fn step_count(s: &[u8]) -> usize
+    ensures value { λ r. ⌜ r ≡ stepsOf (now (s .entry)) ⌝ }
+    ensures small { λ r. ⌜ r < 65536 ⌝ }
+{
+    read_be16(s, 7) as usize
+}
+
+// The labels of a table, as the part of the file that holds them.
+pub fn labels(s: &[u8]) -> &[u8]
+    ensures { λ r. ⌜ now r ≡ labelsPart (now (s .entry)) ⌝ }
+{
+    let a = Head::BYTES;
+    let e = a + states(s) * 2;
+    part_of(s, a, e)
+}
+
+// The steps of a table, as the part of the file that holds them.
+pub fn steps(s: &[u8]) -> &[u8]
+    ensures { λ r. ⌜ now r ≡ stepsPart (now (s .entry)) ⌝ }
+{
+    let a = Head::BYTES + states(s) * 2;
+    let e = a + step_count(s) * 2;
+    part_of(s, a, e)
+}
+
+// The label of a state, from the part that holds the labels; 0 past the end.
+pub fn label(labels: &[u8], state: usize) -> u64
+    ensures value { λ r. ⌜ r ≡ labelOf (now (labels .entry)) state ⌝ }
+    ensures small { λ r. ⌜ r < 65536 ⌝ }
+{
+    if labels.len() / 2 < state {
+        return 0;
+    }
+    read_be16(labels, state * 2)
+}
+
+// The state that step j leaves, from the part that holds the steps; 0 past the end.
+pub fn from(steps: &[u8], j: usize) -> usize
+    ensures value { λ r. ⌜ r ≡ fromOf (now (steps .entry)) j ⌝ }
+    ensures small { λ r. ⌜ r < 256 ⌝ }
+{
+    if steps.len() / 2 < j {
+        return 0;
+    }
+    byte(steps, j * 2)
+}
+
+// The state that step j enters, from the part that holds the steps; 0 past the end.
+pub fn to(steps: &[u8], j: usize) -> usize
+    ensures value { λ r. ⌜ r ≡ toOf (now (steps .entry)) j ⌝ }
+    ensures small { λ r. ⌜ r < 256 ⌝ }
+{
+    if steps.len() / 2 <= j {
+        return 0;
+    }
+    byte(steps, j * 2 + 1)
+}
+
+// Causes 1 to 7.
+fn read_head(s: &[u8]) -> TableRead
+    ensures { λ r. ⌜ r ≡ readHead (now (s .entry)) ⌝ }
+{
+    if s.len() < Head::BYTES {
+        return TableRead::Refused(TableRefusal::Short);
+    }
+    if byte(s, 0) != 0x54 {
+        return TableRead::Refused(TableRefusal::Magic);
+    }
+    if byte(s, 1) != 0x50 {
+        return TableRead::Refused(TableRefusal::Magic);
+    }
+    if byte(s, 2) != 0x54 {
+        return TableRead::Refused(TableRefusal::Magic);
+    }
+    let version = read_be16(s, 3);
+    if version != Head::VERSION {
+        return TableRead::Refused(TableRefusal::Version);
+    }
+    let n = states(s);
+    if n < 1 {
+        return TableRead::Refused(TableRefusal::States);
+    }
+    if Head::MAX_STATES < n {
+        return TableRead::Refused(TableRefusal::States);
+    }
+    let start = byte(s, 6);
+    if n <= start {
+        return TableRead::Refused(TableRefusal::Start);
+    }
+    let m = step_count(s);
+    if Head::MAX_STEPS < m {
+        return TableRead::Refused(TableRefusal::Steps);
+    }
+    if s.len() != Head::BYTES + n * 2 + m * 2 {
+        return TableRead::Refused(TableRefusal::Length);
+    }
+    let none = Row::empty();
+    let initial = none.add(start);
+    TableRead::Good(Head {
+        version: version as usize,
+        states: n,
+        steps: m,
+        initial,
+    })
+}
+
+// The first of m steps with an end of n or more, and m where there is none.
+fn first_outside(steps: &[u8], n: usize, m: usize) -> usize
+    ensures { λ r. ⌜ r ≡ firstBelow m (endsOutside (now (steps .entry)) n) ⌝ }
+{
+    let mut j: usize = 0;
+    while j < m {
+        if n <= from(steps, j) {
+            return j;
+        }
+        if n <= to(steps, j) {
+            return j;
+        }
+        j += 1;
+    }
+    m
+}
+
+// Whether step j equals an earlier one.
+fn is_doubled(steps: &[u8], j: usize) -> bool
+    ensures { λ r. ⌜ r ≡ doubled (now (steps .entry)) j ⌝ }
+{
+    let mut i: usize = 0;
+    while i < j {
+        if from(steps, i) == from(steps, j) {
+            if to(steps, i) == to(steps, j) {
+                return true;
+            }
+        }
+        i += 1;
+    }
+    false
+}
+
+// The first of m steps that equals an earlier one, and m where there is none.
+fn first_doubled(steps: &[u8], m: usize) -> usize
+    ensures { λ r. ⌜ r ≡ firstBelow m (doubled (now (steps .entry))) ⌝ }
+{
+    let mut j: usize = 0;
+    while j < m {
+        if is_doubled(steps, j) {
+            return j;
+        }
+        j += 1;
+    }
+    m
+}
+
+// Causes 1 to 9, in this order: the header of the table, or its refusal.
+pub fn read_table(s: &[u8]) -> TableRead
+    ensures { λ r. ⌜ r ≡ readTable (now (s .entry)) ⌝ }
+{
+    let read = read_head(s);
+    let TableRead::Good(head) = read else {
+        return read;
+    };
+    let steps = steps(s);
+    let outside = first_outside(steps, head.states, head.steps);
+    if outside < head.steps {
+        return TableRead::Refused(TableRefusal::StepEnd(outside));
+    }
+    let doubled = first_doubled(steps, head.steps);
+    if doubled < head.steps {
+        return TableRead::Refused(TableRefusal::Doubled(doubled));
+    }
+    read
+}
