@@ -1,5 +1,6 @@
 -- Laws of tables, for the proofs of this crate and of those above it.
 pub mod TestLaws
 pub mod CauseLaws
+pub mod RefusalLaws
 pub mod ConditionLaws
 pub mod TableLaws

@@ -1,0 +1,5 @@
+-- Laws of certificates and relations, for the proofs of this crate and of those above it.
+pub mod LayoutLaws
+pub mod CertificateTestLaws
+pub mod CertificateConditionLaws
+pub mod CertificateLaws
