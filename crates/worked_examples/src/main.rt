@@ -1,9 +1,9 @@
 // Runs the readers at every edge of document 01 and prints what they say, a line each: the edge in words, then six numbers. A refusal prints its
 // six numbers. A table that is read prints 0 0, its states, its steps, its version and its initial state; a certificate or a relation that is
 // read prints 0 0 and its four sizes.
-use checker::CertificateRead;
-use checker::RelationRead;
-use checker::Sizes;
+use certificates::CertificateRead;
+use certificates::RelationRead;
+use certificates::Sizes;
 use lists::part_of;
 use tables::Answer;
 use tables::TableRead;
@@ -11,19 +11,19 @@ ghost use Prim.Native.Nat.{_<_, _≤_};
 
 // ---- printing
 
+// A number and what follows it.
+fn print_number(number: usize, after: &[u8]) {
+    io::print_decimal(1, number as u64);
+    io::write_all(1, after);
+}
+
 fn print_answer(answer: Answer) {
-    io::print_decimal(1, answer.code as u64);
-    io::write_all(1, b" ");
-    io::print_decimal(1, answer.file as u64);
-    io::write_all(1, b" ");
-    io::print_decimal(1, answer.a as u64);
-    io::write_all(1, b" ");
-    io::print_decimal(1, answer.b as u64);
-    io::write_all(1, b" ");
-    io::print_decimal(1, answer.c as u64);
-    io::write_all(1, b" ");
-    io::print_decimal(1, answer.d as u64);
-    io::write_all(1, b"\n");
+    print_number(answer.code, b" ");
+    print_number(answer.file, b" ");
+    print_number(answer.a, b" ");
+    print_number(answer.b, b" ");
+    print_number(answer.c, b" ");
+    print_number(answer.d, b"\n");
 }
 
 fn print_good(a: usize, b: usize, c: usize, d: usize) {
@@ -70,7 +70,7 @@ fn show_tables(left: &[u8], right: &[u8]) {
 }
 
 fn show_certificate(certificate: &[u8], sizes: Sizes) {
-    let read = checker::read_certificate(certificate, sizes);
+    let read = certificates::read_certificate(certificate, sizes);
     match read {
         CertificateRead::Good(found) => print_sizes(found),
         CertificateRead::Refused(refusal) => print_answer(refusal.answer(2)),
@@ -78,7 +78,7 @@ fn show_certificate(certificate: &[u8], sizes: Sizes) {
 }
 
 fn show_relation(relation: &[u8], sizes: Sizes) {
-    let read = checker::read_relation(relation, sizes);
+    let read = certificates::read_relation(relation, sizes);
     match read {
         RelationRead::Good(found) => print_sizes(found),
         RelationRead::Refused(refusal) => print_answer(refusal.answer(2)),
@@ -198,6 +198,14 @@ fn certificate_case(name: &[u8], i: usize, first: u8, k: usize, second: u8, leng
     show_certificate(part_of(&buffer, 0, length), sizes);
 }
 
+// Puts a row with all 64 bits where the first row stands.
+fn put_ones(buffer: &mut [u8]) {
+    put_number(buffer, 11, 65535);
+    put_number(buffer, 13, 65535);
+    put_number(buffer, 15, 65535);
+    put_number(buffer, 17, 65535);
+}
+
 // A certificate for 1 and n2 states and no step, whose one row has all 64 bits.
 fn full_row_case(name: &[u8], n2: u8) {
     let sizes = Sizes {
@@ -208,14 +216,7 @@ fn full_row_case(name: &[u8], n2: u8) {
     };
     let mut buffer = [0u8; 1024];
     make_certificate(&mut buffer, sizes);
-    put(&mut buffer, 11, 255);
-    put(&mut buffer, 12, 255);
-    put(&mut buffer, 13, 255);
-    put(&mut buffer, 14, 255);
-    put(&mut buffer, 15, 255);
-    put(&mut buffer, 16, 255);
-    put(&mut buffer, 17, 255);
-    put(&mut buffer, 18, 255);
+    put_ones(&mut buffer);
     io::write_all(1, name);
     show_certificate(part_of(&buffer, 0, sizes.length()), sizes);
 }
@@ -247,90 +248,138 @@ fn layout_case(name: &[u8], sizes: Sizes) {
     });
 }
 
+// The labels of P, and two past the end.
+fn labels_of(p: &[u8]) {
+    let labels = tables::labels(p);
+    let first = tables::label(labels, 0);
+    let second = tables::label(labels, 1);
+    let third = tables::label(labels, 2);
+    let last = tables::label(labels, 18446744073709551615);
+    print_good(
+        first as usize,
+        second as usize,
+        third as usize,
+        last as usize,
+    );
+}
+
+// The ends of two steps from j on.
+fn steps_of(p: &[u8], j: usize, k: usize) {
+    let steps = tables::steps(p);
+    let from = tables::from(steps, j);
+    let to = tables::to(steps, j);
+    let next_from = tables::from(steps, k);
+    let next_to = tables::to(steps, k);
+    print_good(from, to, next_from, next_to);
+}
+
 // The parts of P of document 01: labels 0 1, steps 0-1, 1-0.
 fn parts_of_p() {
     let p = [0x54u8, 0x50, 0x54, 0, 1, 2, 0, 0, 2, 0, 0, 0, 1, 0, 1, 1, 0];
-    let labels = tables::labels(&p);
-    let steps = tables::steps(&p);
     io::write_all(1, b"P, labels 0 to 2, past the end: ");
-    print_good(
-        tables::label(labels, 0) as usize,
-        tables::label(labels, 1) as usize,
-        tables::label(labels, 2) as usize,
-        tables::label(labels, 18446744073709551615) as usize,
-    );
+    labels_of(&p);
     io::write_all(1, b"P, steps from, to: ");
-    print_good(
-        tables::from(steps, 0),
-        tables::to(steps, 0),
-        tables::from(steps, 1),
-        tables::to(steps, 1),
-    );
+    steps_of(&p, 0, 1);
     io::write_all(1, b"P, steps past the end: ");
-    print_good(
-        tables::from(steps, 2),
-        tables::to(steps, 2),
-        tables::from(steps, 18446744073709551615),
-        tables::to(steps, 18446744073709551615),
-    );
+    steps_of(&p, 2, 18446744073709551615);
     io::write_all(1, b"P: ");
     show_table(&p, 0);
 }
 
-fn table_sizes() {
+// The number of states.
+fn table_states() {
     table_case(b"n 1: ", 1, 0, 1, 1);
     table_case(b"n 63: ", 63, 0, 256, 16);
     table_case(b"n 64: ", 64, 0, 256, 16);
     table_case(b"n 65: ", 65, 0, 256, 16);
     table_case(b"n 0: ", 0, 0, 0, 1);
+}
+
+// The number of steps.
+fn table_step_counts() {
     table_case(b"m 0: ", 2, 1, 0, 1);
     table_case(b"m 255: ", 16, 0, 255, 16);
     table_case(b"m 256: ", 16, 0, 256, 16);
     table_case(b"m 257: ", 17, 0, 257, 17);
+}
+
+// The start.
+fn table_starts() {
     table_case(b"start n - 1: ", 64, 63, 0, 1);
     table_case(b"start n: ", 64, 64, 0, 1);
 }
 
-fn table_bytes() {
+// The length of a table.
+fn table_lengths() {
     changed_case(b"unchanged: ", 0, 0x54, 0, 0x54, 23);
     changed_case(b"no bytes: ", 0, 0x54, 0, 0x54, 0);
     changed_case(b"8 bytes: ", 0, 0x54, 0, 0x54, 8);
     changed_case(b"9 bytes: ", 0, 0x54, 0, 0x54, 9);
     changed_case(b"one byte short: ", 0, 0x54, 0, 0x54, 22);
     changed_case(b"one byte long: ", 0, 0x54, 0, 0x54, 24);
+}
+
+// The first three bytes of a table.
+fn table_magic() {
     changed_case(b"byte 0 wrong: ", 0, 0x50, 0, 0x50, 23);
     changed_case(b"byte 1 wrong: ", 1, 0x54, 1, 0x54, 23);
     changed_case(b"byte 2 wrong: ", 2, 0x43, 2, 0x43, 23);
+}
+
+// The version of a table.
+fn table_versions() {
     changed_case(b"version 0: ", 4, 0, 4, 0, 23);
     changed_case(b"version 2: ", 4, 2, 4, 2, 23);
     changed_case(b"version 256: ", 3, 1, 4, 0, 23);
 }
 
-fn table_steps() {
+// Steps with an end outside.
+fn step_ends() {
     changed_case(b"first step from n: ", 15, 3, 15, 3, 23);
     changed_case(b"middle step to 200: ", 18, 200, 18, 200, 23);
     changed_case(b"last step to n: ", 22, 3, 22, 3, 23);
     changed_case(b"two steps outside: ", 22, 3, 17, 3, 23);
+}
+
+// Steps that stand twice.
+fn doubled_steps() {
     changed_case(b"doubled next to its twin: ", 17, 0, 18, 0, 23);
     changed_case(b"doubled far from its twin: ", 21, 0, 22, 0, 23);
     changed_case(b"two doubled: ", 20, 1, 21, 0, 23);
     changed_case(b"doubled, and a later one outside: ", 18, 0, 22, 3, 23);
+}
+
+// Two tables, of which the left is read first.
+fn two_tables() {
     pair_case(b"two bad tables: ", 4, 0, 0, 0);
     pair_case(b"the right one bad: ", 4, 1, 0, 0);
     pair_case(b"two good tables: ", 4, 1, 4, 1);
 }
 
-fn certificates() {
+// Certificates of all lengths.
+fn certificate_lengths() {
     certificate_case(b"certificate: ", 0, 0x54, 0, 0x54, 51);
     certificate_case(b"no bytes: ", 0, 0x54, 0, 0x54, 0);
     certificate_case(b"10 bytes: ", 0, 0x54, 0, 0x54, 10);
     certificate_case(b"11 bytes: ", 0, 0x54, 0, 0x54, 11);
+}
+
+// The first three bytes of a certificate.
+fn certificate_magic() {
     certificate_case(b"byte 0 wrong: ", 0, 0x50, 0, 0x50, 51);
     certificate_case(b"byte 1 wrong: ", 1, 0x54, 1, 0x54, 51);
     certificate_case(b"byte 2 wrong: ", 2, 0x54, 2, 0x54, 51);
+}
+
+// The version of a certificate.
+fn certificate_versions() {
     certificate_case(b"version 0: ", 4, 0, 4, 0, 51);
     certificate_case(b"version 2: ", 4, 2, 4, 2, 51);
     certificate_case(b"version 256: ", 3, 1, 4, 0, 51);
+}
+
+// The four sizes of a certificate.
+fn certificate_sizes() {
     certificate_case(b"n1 wrong: ", 5, 3, 5, 3, 51);
     certificate_case(b"n2 wrong: ", 6, 2, 6, 2, 51);
     certificate_case(b"m1 wrong: ", 8, 3, 8, 3, 51);
@@ -338,14 +387,23 @@ fn certificates() {
     certificate_case(b"m2 wrong: ", 10, 2, 10, 2, 51);
 }
 
-fn certificate_rows() {
+// A certificate of another length.
+fn certificate_ends() {
     certificate_case(b"one byte short: ", 0, 0x54, 0, 0x54, 50);
     certificate_case(b"one byte long: ", 0, 0x54, 0, 0x54, 52);
+}
+
+// The rows of a certificate.
+fn certificate_rows() {
     certificate_case(b"all bits below n2: ", 18, 7, 26, 7, 51);
     certificate_case(b"bit n2 in the first row: ", 18, 8, 18, 8, 51);
     certificate_case(b"bit n2 in the last row: ", 26, 8, 26, 8, 51);
     certificate_case(b"bit n2 in two rows: ", 18, 8, 26, 8, 51);
     certificate_case(b"bit 63 in the last row: ", 19, 128, 19, 128, 51);
+}
+
+// A row with all its bits.
+fn full_rows() {
     full_row_case(b"n2 64, all bits: ", 64);
     full_row_case(b"n2 63, all bits: ", 63);
 }
@@ -361,9 +419,15 @@ fn relations() {
 
 fn main() {
     parts_of_p();
-    table_sizes();
-    table_bytes();
-    table_steps();
+    table_states();
+    table_step_counts();
+    table_starts();
+    table_lengths();
+    table_magic();
+    table_versions();
+    step_ends();
+    doubled_steps();
+    two_tables();
     layout_case(
         b"layout of P, Q, K: ",
         Sizes {
@@ -382,7 +446,12 @@ fn main() {
             m2: 256,
         },
     );
-    certificates();
+    certificate_lengths();
+    certificate_magic();
+    certificate_versions();
+    certificate_sizes();
+    certificate_ends();
     certificate_rows();
+    full_rows();
     relations();
 }

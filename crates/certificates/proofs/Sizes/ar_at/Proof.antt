@@ -1,0 +1,34 @@
+-- `certificates::Sizes::ar_at` meets its contract: AR begins n1 times n2 bytes after AL, and the sizes are bytes, so the sum fits. Assumes nothing.
+use native.Mathlib.Omega.{arith}
+use borrow.Author.Needs.{needs}
+use Rattle.certificates.specs.Layout.{alAt, arAt}
+use Rattle.certificates.proofs.LayoutLaws.{ProductsFit, products-fit}
+use Rattle.certificates.proofs.Sizes.ar_at.Statement.{statement}
+use Rattle.certificates.proofs.Sizes.ar_at.Tie as tie
+
+fit : (c : tie.After-struct-known2) → ProductsFit 255 65535 (c .before .before .before .args .self)
+fit c = products-fit _ (omega arith) (omega arith) (omega arith) (omega arith)
+
+al-at-requires : tie.Need-al-at-requires
+al-at-requires c κs = search needs
+
+cast-result : tie.Need-cast-result
+cast-result c = search needs
+
+cast-result-2 : tie.Need-cast-result-2
+cast-result-2 c = search needs
+
+mul-result : tie.Need-mul-result
+mul-result c = let p = fit c in omega arith
+
+add-result : tie.Need-add-result
+unfolding alAt
+add-result c = let p = fit c in omega arith
+
+returns : tie.Need-returns
+unfolding alAt arAt
+returns c = omega arith
+
+pub ar-at-spec : {M : Type 1} → statement M
+ar-at-spec =
+    tie.close (tie.spec al-at-requires cast-result cast-result-2 mul-result add-result returns)

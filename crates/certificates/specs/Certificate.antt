@@ -1,0 +1,63 @@
+-- Reading a certificate and a relation: the first cause that applies, or the sizes.
+use Prim.Native.Nat.{ℕ, _*_}
+use mathlib.Core.Bool.{Bool, cond, not, _&&_}
+use mathlib.Core.List.{List}
+use lib.Dec.{ltb, eqb}
+use lib.ListN.{length}
+use Rattle.lists.specs.Below.{firstBelow}
+use Rattle.lists.specs.Numbers.{byteAt, bigEndian}
+use Rattle.words.specs.Bits.{hasFrom}
+use Rattle.certificates.specs.Layout.{certificateLength, rowsPart, rowOf}
+use Rattle.certificates.specs.declared.Sizes.{Sizes}
+use Rattle.certificates.specs.declared.CertificateRefusal.the-variants as certificate
+use Rattle.certificates.specs.declared.CertificateRead.{CertificateRead}
+use Rattle.certificates.specs.declared.CertificateRead.the-variants as read
+use Rattle.certificates.specs.declared.RelationRefusal.the-variants as relation
+use Rattle.certificates.specs.declared.RelationRead.{RelationRead}
+use Rattle.certificates.specs.declared.RelationRead.the-variants as drawn
+
+-- Bytes 0 to 2: "TPC".
+unfoldable pub certificateMagicFits : List ℕ → Bool
+certificateMagicFits c = eqb (byteAt c 0) 0x54 && eqb (byteAt c 1) 0x50 && eqb (byteAt c 2) 0x43
+
+-- Bytes 5 and 6, then 7, 8 and 9, 10: the tables' sizes.
+unfoldable pub certificateSizesFit : Sizes → List ℕ → Bool
+certificateSizesFit z c =
+    eqb (byteAt c 5) (z .n1) && eqb (byteAt c 6) (z .n2) && eqb (bigEndian c 7 2) (z .m1) && eqb (bigEndian c 9 2) (z .m2)
+
+-- Causes 10 to 14: the first that applies, or the sizes.
+unfoldable pub readHeader : Sizes → List ℕ → CertificateRead
+readHeader z c =
+    cond (ltb (length c) 11) (read.Refused certificate.Short)
+    (cond (not (certificateMagicFits c)) (read.Refused certificate.Magic)
+    (cond (not (eqb (bigEndian c 3 2) 1)) (read.Refused certificate.Version)
+    (cond (not (certificateSizesFit z c)) (read.Refused certificate.Sizes)
+    (cond (not (eqb (length c) (certificateLength z))) (read.Refused certificate.Length)
+    (read.Good z)))))
+
+-- Row s has a bit n2 or more.
+unfoldable pub wideRow : List ℕ → ℕ → ℕ → Bool
+wideRow rows n2 s = hasFrom (rowOf rows s) n2
+
+-- Cause 15 of a certificate whose header is good: the first row with a bit n2 or more.
+unfoldable pub readRows : Sizes → List ℕ → CertificateRead
+readRows z rows =
+    let wide = firstBelow (z .n1) (wideRow rows (z .n2)) in
+    cond (ltb wide (z .n1)) (read.Refused (certificate.RowBit wide)) (read.Good z)
+
+-- The rows are looked at where the header is good.
+abbrev pub withRows : List ℕ → CertificateRead → CertificateRead
+withRows c (read.Good z) = readRows z (rowsPart c z)
+withRows c (read.Refused r) = read.Refused r
+
+-- What reading a certificate gives: its sizes, or the refusal.
+unfoldable pub readCertificate : Sizes → List ℕ → CertificateRead
+readCertificate z c = withRows c (readHeader z c)
+
+-- What reading a relation gives: causes 20 and 15, or its sizes.
+unfoldable pub readRelation : Sizes → List ℕ → RelationRead
+readRelation z r =
+    let wide = firstBelow (z .n1) (wideRow r (z .n2)) in
+    cond (not (eqb (length r) (8 * z .n1))) (drawn.Refused relation.Length)
+    (cond (ltb wide (z .n1)) (drawn.Refused (relation.RowBit wide))
+    (drawn.Good z))
