@@ -1,5 +1,5 @@
 # make run     build the judge and run it on the example P, Q, K of the format's document
-# make test    the whole gate: layout, proofs, must-fail edits, programs; its last line is rt's 'N passed, 0 failed'
+# make test    the whole gate: layout, the Rust oracle's own tests, proofs, must-fail edits, programs; its last line is rt's 'N passed, 0 failed'
 # make bench   speed, as ratios in one run; no part of the gate
 # make fmt     lay out every file under crates/
 
@@ -10,6 +10,7 @@ run:
 
 test:
 	rt fmt --check
+	cargo test --release --offline --quiet --manifest-path rust/Cargo.toml
 	rt ci
 
 bench:

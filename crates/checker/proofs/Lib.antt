@@ -1,0 +1,2 @@
+-- Laws of obligations.
+pub mod ObligationLaws

@@ -1,0 +1,140 @@
+// One obligation, document 01's duty: an own step from s to u, at a state t of the other side that is related to s. It is tested on words, so it
+// costs a few instructions. Nothing here knows which side is which, or how steps are told apart: the caller hands over the sets of states.
+use lists::byte;
+use words::Row;
+ghost use mathlib.Core.Path.{_≡_};
+ghost use lib.Bits.{bitAnd};
+ghost use lib.Dec.{ltb};
+ghost use mathlib.Core.Bool.{_&&_};
+ghost use Rattle.words.specs.Bits.{firstBit};
+ghost use Rattle.checker.specs.Obligation.{firstFalling, staysAt, obligationOf, clauseNumber, causeNumber};
+
+// The clause that meets an obligation: 2a, 2b or 2c.
+pub enum Clause {
+    Answer,
+    Stutter,
+    Match,
+}
+
+// Why an obligation fails: 18 or 19.
+pub enum Cause {
+    Apart,
+    Rank,
+}
+
+// The outcome of an obligation.
+pub enum Outcome {
+    Met(Clause),
+    Failed(Cause),
+}
+
+// What an obligation looks at.
+pub struct Facing {
+    // The states of the other side that are related to s, and to u.
+    pub from: Row,
+    pub to: Row,
+    // The states that steps from t enter: steps that answer this one, and silent steps.
+    pub answering: Row,
+    pub silent: Row,
+    // Whether the step is silent.
+    pub quiet: bool,
+}
+
+impl Clause {
+    // The clause's number: 1, 2 or 3.
+    pub fn number(self) -> usize
+        ensures { λ r. ⌜ r ≡ clauseNumber self ⌝ }
+    {
+        let clause = self;
+        match clause {
+            Clause::Answer => 1,
+            Clause::Stutter => 2,
+            Clause::Match => 3,
+        }
+    }
+}
+
+impl Cause {
+    // The cause's number: 18 or 19.
+    pub fn number(self) -> usize
+        ensures { λ r. ⌜ r ≡ causeNumber self ⌝ }
+    {
+        let cause = self;
+        match cause {
+            Cause::Apart => 18,
+            Cause::Rank => 19,
+        }
+    }
+}
+
+// The smallest state by which 2a holds, and 64 where it does not.
+fn answering_state(facing: Facing) -> usize
+    ensures { λ r. ⌜ r ≡ firstBit (bitAnd (facing .answering .0) (facing .to .0)) ⌝ }
+{
+    let answering = facing.answering;
+    let both = answering.intersect(facing.to);
+    both.first()
+}
+
+// The smallest state of the set at which the rank is below that at t, and 64 where there is none.
+fn falling_state(set: Row, ranks: &[u8], t: usize) -> usize
+    ensures { λ r. ⌜ r ≡ firstFalling (set .0) (now (ranks .entry)) t ⌝ }
+{
+    let here = byte(ranks, t);
+    let mut left = set;
+    let mut v = left.first();
+    while v < 64 {
+        if byte(ranks, v) < here {
+            return v;
+        }
+        left = left.remove(v);
+        v = left.first();
+    }
+    64
+}
+
+// Whether the step stays inside a block: it is silent, and u and t are related.
+fn stays(facing: Facing, t: usize) -> bool
+    ensures { λ r. ⌜ r ≡ staysAt facing t ⌝ }
+{
+    if facing.quiet {
+        let to = facing.to;
+        return to.has(t);
+    }
+    false
+}
+
+// Whether 2b holds, for the A ranks of (s, t) before and (u, t) after the step.
+fn stutters(facing: Facing, t: usize, before: usize, after: usize) -> bool
+    ensures { λ r. ⌜ r ≡ (staysAt facing t && ltb after before) ⌝ }
+{
+    if stays(facing, t) {
+        return after < before;
+    }
+    false
+}
+
+// The outcome: the first of 2a, 2b and 2c that holds, else the cause. `before` and `after` are the A ranks of (s, t) and of (u, t), and `ranks`
+// has the C ranks of this step at each state of the other side.
+pub fn obligation(facing: Facing, t: usize, before: usize, after: usize, ranks: &[u8]) -> Outcome
+    ensures { λ r. ⌜ r ≡ obligationOf facing t before after (now (ranks .entry)) ⌝ }
+{
+    if answering_state(facing) < 64 {
+        return Outcome::Met(Clause::Answer);
+    }
+    if stutters(facing, t, before, after) {
+        return Outcome::Met(Clause::Stutter);
+    }
+    let silent = facing.silent;
+    let ahead = silent.intersect(facing.from);
+    if falling_state(ahead, ranks, t) < 64 {
+        return Outcome::Met(Clause::Match);
+    }
+    if stays(facing, t) {
+        return Outcome::Failed(Cause::Rank);
+    }
+    if ahead.first() < 64 {
+        return Outcome::Failed(Cause::Rank);
+    }
+    Outcome::Failed(Cause::Apart)
+}

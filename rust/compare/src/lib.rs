@@ -1,0 +1,186 @@
+//! Runs an implementation beside the oracle on generated inputs. At the first
+//! difference it panics with the input in hexadecimal; otherwise it reports what
+//! was seen.
+
+mod names;
+mod report;
+
+use inputs::{JudgeCases, MakeCases, ProgramCases, Random, PROGRAM_FORMS};
+use names::{limit_names, name, names, size_names};
+pub use report::Report;
+
+type Answer = [u64; 6];
+
+/// Compares a judge with the oracle's on `count` inputs.
+pub fn judge(
+    count: usize,
+    seed: u64,
+    mut under_test: impl FnMut(&[u8], &[u8], &[u8]) -> Answer,
+) -> Report {
+    let mut required = names("accepted", 1..=19);
+    required.extend(["2a", "2b", "2c"].map(String::from));
+    required.extend(limit_names("accepted"));
+    let mut report = Report::new(required);
+
+    for case in JudgeCases::new(seed, count) {
+        let (left, right, certificate) = (&case.left, &case.right, &case.certificate);
+        let expected = oracle::judge(left, right, certificate);
+        let found = under_test(left, right, certificate);
+        assert!(
+            found == expected,
+            "the judge differs ({})\nexpected    {expected:?}\nfound       {found:?}\n\
+             left        {}\nright       {}\ncertificate {}",
+            case.label,
+            hex(left),
+            hex(right),
+            hex(certificate),
+        );
+
+        report.see_label(case.label);
+        report.see(name(expected, "accepted"));
+        if expected[0] == 0 {
+            report.see_times("2a", expected[3]);
+            report.see_times("2b", expected[4]);
+            report.see_times("2c", expected[5]);
+            for size in [size_names("accepted", left), size_names("accepted", right)].concat() {
+                report.see(size);
+            }
+        }
+    }
+    report
+}
+
+/// Compares a maker with the oracle's on `count` inputs: the six numbers and
+/// every byte of the output. The lent output is filled with a pattern; what a
+/// refusal must not touch and what stands after L is compared with that pattern,
+/// and each certificate made is handed to the oracle's judge.
+pub fn make(
+    count: usize,
+    seed: u64,
+    mut under_test: impl FnMut(&[u8], &[u8], &[u8], &mut [u8]) -> Answer,
+) -> Report {
+    let mut required = names(
+        "made",
+        [1, 2, 3, 4, 5, 6, 7, 8, 9, 15, 16, 17, 20, 21, 22, 23],
+    );
+    required.extend(RUNS.map(|run| format!("made, {run} rank above 0")));
+    required.extend(RUNS.map(|run| format!("made, {run} rank of 63")));
+    required.extend(["made, output exact", "made, output longer"].map(String::from));
+    required.push("21, one byte short".to_string());
+    required.extend(limit_names("made"));
+    let mut report = Report::new(required);
+    let mut random = Random::new(!seed);
+
+    for case in MakeCases::new(seed, count) {
+        let (left, right, relation) = (&case.left, &case.right, &case.relation);
+        let pattern = random.bytes(case.output_length);
+        let mut expected_output = pattern.clone();
+        let mut output = pattern.clone();
+        let expected = oracle::make(left, right, relation, &mut expected_output);
+        let found = under_test(left, right, relation, &mut output);
+        let written = if expected[0] == 0 { expected[2] } else { 0 } as usize;
+        assert!(
+            found == expected
+                && output == expected_output
+                && output[written..] == pattern[written..],
+            "the maker differs ({})\nexpected {expected:?}\nfound    {found:?}\n\
+             left     {}\nright    {}\nrelation {}\nlent     {}\nexpected {}\nfound    {}",
+            case.label,
+            hex(left),
+            hex(right),
+            hex(relation),
+            hex(&pattern),
+            hex(&expected_output),
+            hex(&output),
+        );
+
+        report.see_label(case.label);
+        report.see(name(expected, "made"));
+        if expected[0] == 21 && case.output_length as u64 + 1 == expected[2] {
+            report.see("21, one byte short");
+        }
+        if expected[0] == 0 {
+            let certificate = &output[..written];
+            let judged = oracle::judge(left, right, certificate);
+            assert!(
+                judged[0] == 0,
+                "the judge answers {judged:?} to a certificate made ({})\n\
+                 left        {}\nright       {}\ncertificate {}",
+                case.label,
+                hex(left),
+                hex(right),
+                hex(certificate),
+            );
+            see_made(&mut report, left, right, certificate, output.len());
+        }
+    }
+    report
+}
+
+/// The four runs of ranks.
+const RUNS: [&str; 4] = ["AL", "AR", "CL", "CR"];
+
+fn see_made(
+    report: &mut Report,
+    left: &[u8],
+    right: &[u8],
+    certificate: &[u8],
+    output_length: usize,
+) {
+    let exact = output_length == certificate.len();
+    report.see(format!(
+        "made, output {}",
+        if exact { "exact" } else { "longer" }
+    ));
+    for size in [size_names("made", left), size_names("made", right)].concat() {
+        report.see(size);
+    }
+    let (n1, n2) = (left[5] as usize, right[5] as usize);
+    let m1 = left[7] as usize * 256 + left[8] as usize;
+    let mut rest = &certificate[11 + 8 * n1..];
+    for (run, length) in RUNS.iter().zip([n1 * n2, n1 * n2, m1 * n2, usize::MAX]) {
+        let (ranks, after) = rest.split_at(length.min(rest.len()));
+        if ranks.iter().any(|&rank| rank > 0) {
+            report.see(format!("made, {run} rank above 0"));
+        }
+        // Ranks made are below the number of states, so this is the highest.
+        if ranks.contains(&63) {
+            report.see(format!("made, {run} rank of 63"));
+        }
+        rest = after;
+    }
+}
+
+/// Compares a program with the oracle's on `count` inputs. The closure is given
+/// the standard input and gives what was printed.
+pub fn program(count: usize, seed: u64, mut under_test: impl FnMut(&[u8]) -> String) -> Report {
+    let mut required = names("accepted", 1..=19);
+    required.extend(PROGRAM_FORMS.map(String::from));
+    let mut report = Report::new(required);
+
+    for case in ProgramCases::new(seed, count) {
+        let expected = oracle::program(&case.input);
+        let found = under_test(&case.input);
+        assert!(
+            found == expected,
+            "the program differs ({})\nexpected {expected:?}\nfound    {found:?}\ninput    {}",
+            case.label,
+            hex(&case.input),
+        );
+
+        report.see_label(case.label);
+        report.see(case.label);
+        let mut answer = [0; 6];
+        for (number, word) in answer.iter_mut().zip(expected.split_whitespace()) {
+            *number = word.parse().expect("the program prints numbers");
+        }
+        report.see(name(answer, "accepted"));
+    }
+    report
+}
+
+/// Bytes in hexadecimal.
+fn hex(bytes: &[u8]) -> String {
+    let pairs: Vec<String> = bytes.iter().map(|byte| format!("{byte:02x}")).collect();
+    pairs.join(" ")
+}

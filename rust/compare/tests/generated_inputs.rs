@@ -1,0 +1,52 @@
+//! The oracle beside the tuned judge and beside itself, on enough inputs that
+//! every number, side, clause and limit is seen.
+
+#[test]
+fn the_tuned_judge_equals_the_plain_one() {
+    compare::judge(300_000, 1, oracle::tuned::judge).require_all();
+}
+
+#[test]
+fn every_number_of_the_maker_is_seen() {
+    compare::make(100_000, 2, oracle::make).require_all();
+}
+
+#[test]
+fn every_form_of_program_input_is_seen() {
+    compare::program(50_000, 3, oracle::program).require_all();
+}
+
+#[test]
+fn the_same_seed_gives_the_same_inputs() {
+    let first = compare::judge(3_000, 4, oracle::judge);
+    let again = compare::judge(3_000, 4, oracle::judge);
+    let other = compare::judge(3_000, 5, oracle::judge);
+    assert_eq!(first.seen, again.seen);
+    assert_ne!(first.seen, other.seen);
+}
+
+/// The answer of a judge that accepts everything is found out.
+#[test]
+#[should_panic(expected = "the judge differs")]
+fn a_difference_is_found() {
+    compare::judge(1_000, 6, |_, _, _| [0; 6]);
+}
+
+/// A maker that writes on a refusal is found out.
+#[test]
+#[should_panic(expected = "the maker differs")]
+fn a_touched_output_is_found() {
+    compare::make(1_000, 7, |left, right, relation, output| {
+        let answer = oracle::make(left, right, relation, output);
+        if answer[0] == 22 {
+            output[0] = !output[0];
+        }
+        answer
+    });
+}
+
+#[test]
+#[should_panic(expected = "never seen")]
+fn too_few_inputs_are_found() {
+    compare::judge(20, 8, oracle::judge).require_all();
+}

@@ -1,0 +1,308 @@
+//! Families of systems. Many of them have the path property, and a good part of
+//! the rest fails to have it only just.
+
+use crate::random::Random;
+use crate::split::{relate_copies, split, SplitInto};
+use crate::system::System;
+use oracle::{Step, Table};
+
+/// A system from one of the families.
+pub fn any_system(random: &mut Random) -> System {
+    let system = match random.below(100) {
+        0..=9 => random_system(random),
+        10..=34 => pruned_system(random),
+        35..=59 => thinned_system(random),
+        60..=89 => split_system(random),
+        90..=93 => cycles(random),
+        94..=96 => long_system(random),
+        97 => round_trip(random),
+        98 => stepless_system(random),
+        _ => full_system(random),
+    };
+    if random.percent(50) {
+        system.exchanged()
+    } else {
+        system
+    }
+}
+
+/// Random tables of at most six states, and a random relation.
+pub fn random_system(random: &mut Random) -> System {
+    let left = random_table(random, 6);
+    let right = random_table(random, 6);
+    let density = random.pick(&[20, 50, 80, 100]);
+    let mut related = relation(&left, &right, |_, _| random.percent(density));
+    related[left.start][right.start] = true;
+    System {
+        left,
+        right,
+        related,
+    }
+}
+
+/// Random tables, and what pruning leaves of a relation between equal marks. Where
+/// it leaves nothing, other tables are tried.
+pub fn pruned_system(random: &mut Random) -> System {
+    loop {
+        let left = random_table(random, 5);
+        let right = random_table(random, 5);
+        let density = random.pick(&[70, 100, 100]);
+        let related = relation(&left, &right, |s, t| {
+            left.marks[s] == right.marks[t] && random.percent(density)
+        });
+        let system = prune(System {
+            left,
+            right,
+            related,
+        });
+        if !system.pairs().is_empty() {
+            return system;
+        }
+    }
+}
+
+/// A split system, and what pruning leaves when some pairs have been taken out.
+pub fn thinned_system(random: &mut Random) -> System {
+    loop {
+        let mut system = split_system(random);
+        for row in &mut system.related {
+            for pair in row {
+                *pair &= random.percent(85);
+            }
+        }
+        let system = prune(system);
+        if !system.pairs().is_empty() {
+            return system;
+        }
+    }
+}
+
+/// Takes out each pair at which the maker refuses, until it succeeds or no pair is
+/// left. Where the starts go, they are moved to a pair that is still there.
+fn prune(mut system: System) -> System {
+    loop {
+        let ([code, _, a, b, c, _], _) = system.make();
+        let (a, b, c) = (a as usize, b as usize, c as usize);
+        match (code, a) {
+            (17, _) => system.related[a][b] = false,
+            (22, _) | (23, 1) => system.related[b][c] = false,
+            (23, _) => system.related[c][b] = false,
+            (16, _) => match system.pairs().first() {
+                Some(&(s, t)) => {
+                    system.left.start = s;
+                    system.right.start = t;
+                }
+                None => return system,
+            },
+            _ => return system,
+        }
+    }
+}
+
+/// A small random table, each state of it split into stuttering copies, once for
+/// the left and once for the right; copies of the same state are related.
+pub fn split_system(random: &mut Random) -> System {
+    let small = random_table(random, 4);
+    let extra = random.pick(&[2, 4, 4, 9]);
+    let left = split(random, &small, SplitInto::few(extra));
+    let right = split(random, &small, SplitInto::few(extra));
+    relate_copies(left, right)
+}
+
+/// Two cycles; states at the same place, counted in rounds of `round`, are related.
+pub fn cycles(random: &mut Random) -> System {
+    let round = random.within(1, 8);
+    let shift = random.below(round);
+    let mut cycle = |states: usize| {
+        let mut order: Vec<Step> = (0..states)
+            .map(|from| Step {
+                from,
+                to: (from + 1) % states,
+            })
+            .collect();
+        random.shuffle(&mut order);
+        Table {
+            start: 0,
+            marks: (0..states).map(|s| (s % round) as u16 * 257).collect(),
+            steps: order,
+        }
+    };
+    let left = cycle(round * (64 / round));
+    let mut right = cycle(round);
+    right.start = (round - shift) % round;
+    right.marks.rotate_right((round - shift) % round);
+    let related = relation(&left, &right, |s, t| s % round == (t + shift) % round);
+    System {
+        left,
+        right,
+        related,
+    }
+}
+
+/// Long chains and long cycles of copies: one side has 63 or 64 states, the other
+/// few. The ranks become as high as they can.
+pub fn long_system(random: &mut Random) -> System {
+    let steps: &[(usize, usize)] = random.pick(&[
+        &[] as &[(usize, usize)],
+        &[(0, 0)],
+        &[(0, 1)],
+        &[(0, 1), (1, 0)],
+        &[(0, 1), (0, 0)],
+    ]);
+    let states = steps
+        .iter()
+        .map(|step| step.0.max(step.1))
+        .max()
+        .unwrap_or(0)
+        + 1;
+    let small = Table {
+        start: 0,
+        marks: (0..states as u16).collect(),
+        steps: steps.iter().map(|&(from, to)| Step { from, to }).collect(),
+    };
+    let long = SplitInto {
+        states: (63, 64),
+        straight: true,
+        steps: (0, 0),
+        spare_percent: 0,
+    };
+    let left = split(random, &small, long);
+    let right = split(random, &small, SplitInto::few(2));
+    relate_copies(left, right)
+}
+
+/// Two states that step to each other, and a cycle. The first state is related to
+/// the whole cycle and the second to one state of it only, so that a step to the
+/// second is chased all the way round: the highest chase rank there can be.
+pub fn round_trip(random: &mut Random) -> System {
+    let states = random.pick(&[2, 3, 63, 64]);
+    let cycle = |states: usize| Table {
+        start: 0,
+        marks: vec![0x0101; states],
+        steps: (0..states)
+            .map(|from| Step {
+                from,
+                to: (from + 1) % states,
+            })
+            .collect(),
+    };
+    let (left, mut right) = (cycle(2), cycle(states));
+    right.start = random.below(states);
+    let met = random.below(states);
+    let related = relation(&left, &right, |s, t| s == 0 || t == met);
+    System {
+        left,
+        right,
+        related,
+    }
+}
+
+/// 63 or 64 states on both sides, and up to 255 or 256 steps.
+pub fn full_system(random: &mut Random) -> System {
+    let small = random_table(random, 6);
+    let full = SplitInto {
+        states: (63, 64),
+        straight: false,
+        steps: (255, 256),
+        spare_percent: random.pick(&[0, 10, 50, 80]),
+    };
+    let left = split(random, &small, full);
+    let right = split(random, &small, full);
+    relate_copies(left, right)
+}
+
+/// No step at all, and states with equal marks related.
+pub fn stepless_system(random: &mut Random) -> System {
+    let mut table = || {
+        let states = random.pick(&[1, 2, 3, 63, 64]);
+        Table {
+            start: random.below(states),
+            marks: vec![0x0100; states],
+            steps: Vec::new(),
+        }
+    };
+    let (left, right) = (table(), table());
+    let related = relation(&left, &right, |_, _| true);
+    System {
+        left,
+        right,
+        related,
+    }
+}
+
+/// A table of at most `most` states with few marks and random steps.
+pub fn random_table(random: &mut Random, most: usize) -> Table {
+    let states = random.within(1, most);
+    let marks_used = random.within(1, 3);
+    let density = random.pick(&[10, 25, 40, 70]);
+    let mut steps = Vec::new();
+    for from in 0..states {
+        for to in 0..states {
+            if random.percent(density) {
+                steps.push(Step { from, to });
+            }
+        }
+    }
+    random.shuffle(&mut steps);
+    Table {
+        start: random.below(states),
+        // Marks that differ in the high byte only, or in the low byte only.
+        marks: (0..states)
+            .map(|_| [0x0000, 0x0001, 0x0100][random.below(marks_used)])
+            .collect(),
+        steps,
+    }
+}
+
+fn relation(
+    left: &Table,
+    right: &Table,
+    mut related: impl FnMut(usize, usize) -> bool,
+) -> Vec<Vec<bool>> {
+    (0..left.states())
+        .map(|s| (0..right.states()).map(|t| related(s, t)).collect())
+        .collect()
+}
+
+#[cfg(test)]
+mod tests {
+    use super::*;
+
+    /// These families have the path property before anything is changed.
+    #[test]
+    fn certificates_can_be_made() {
+        let mut random = Random::new(1);
+        let families: [(&str, fn(&mut Random) -> System); 8] = [
+            ("pruned", pruned_system),
+            ("thinned", thinned_system),
+            ("split", split_system),
+            ("cycles", cycles),
+            ("long", long_system),
+            ("round trip", round_trip),
+            ("full", full_system),
+            ("stepless", stepless_system),
+        ];
+        for (name, family) in families {
+            for _ in 0..100 {
+                let (answer, _) = family(&mut random).make();
+                assert_eq!(answer[0], 0, "{name}: {answer:?}");
+            }
+        }
+    }
+
+    /// Ranks are below the number of states, so 63 is the highest one made.
+    #[test]
+    fn the_highest_ranks_are_reached() {
+        let mut random = Random::new(2);
+        let mut highest = [0, 0];
+        for _ in 0..100 {
+            for system in [long_system(&mut random), round_trip(&mut random)] {
+                let (layout, (_, made)) = (system.layout(), system.make());
+                let (stutter, chase) = made[layout.al(0, 0)..].split_at(2 * layout.n1 * layout.n2);
+                highest[0] = highest[0].max(stutter.iter().copied().max().unwrap_or(0));
+                highest[1] = highest[1].max(chase.iter().copied().max().unwrap_or(0));
+            }
+        }
+        assert_eq!(highest, [63, 63]);
+    }
+}

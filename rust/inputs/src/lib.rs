@@ -1,0 +1,21 @@
+//! Inputs for the judge, the maker and the program: the same ones for the same
+//! seed. `JudgeCases`, `MakeCases` and `ProgramCases` are iterators over them.
+
+mod byte_edits;
+mod certificate_edits;
+mod families;
+mod judge_cases;
+mod make_cases;
+mod program_cases;
+mod random;
+mod split;
+mod system;
+mod system_edits;
+mod table_edits;
+
+pub use families::any_system;
+pub use judge_cases::{JudgeCase, JudgeCases};
+pub use make_cases::{MakeCase, MakeCases};
+pub use program_cases::{ProgramCase, ProgramCases, PROGRAM_FORMS};
+pub use random::Random;
+pub use system::{relation_bytes, table_bytes, System};

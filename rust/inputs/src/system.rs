@@ -1,0 +1,95 @@
+//! Two tables and a relation, and how they are written as files.
+
+use crate::random::Random;
+use oracle::{Layout, Step, Table};
+
+#[derive(Clone)]
+pub struct System {
+    pub left: Table,
+    pub right: Table,
+    /// `related[left state][right state]`
+    pub related: Vec<Vec<bool>>,
+}
+
+impl System {
+    pub fn layout(&self) -> Layout {
+        Layout::new(&self.left, &self.right)
+    }
+
+    pub fn left_bytes(&self) -> Vec<u8> {
+        table_bytes(&self.left)
+    }
+
+    pub fn right_bytes(&self) -> Vec<u8> {
+        table_bytes(&self.right)
+    }
+
+    pub fn relation_bytes(&self) -> Vec<u8> {
+        relation_bytes(&self.related)
+    }
+
+    /// The related pairs, left state first.
+    pub fn pairs(&self) -> Vec<(usize, usize)> {
+        let mut pairs = Vec::new();
+        for (s, row) in self.related.iter().enumerate() {
+            pairs.extend((0..row.len()).filter(|&t| row[t]).map(|t| (s, t)));
+        }
+        pairs
+    }
+
+    /// What the maker of the oracle answers, and the certificate where it made one.
+    pub fn make(&self) -> ([u64; 6], Vec<u8>) {
+        let mut output = vec![0; self.layout().length()];
+        let answer = oracle::make(
+            &self.left_bytes(),
+            &self.right_bytes(),
+            &self.relation_bytes(),
+            &mut output,
+        );
+        (answer, output)
+    }
+
+    /// A certificate with this relation and ranks from 0 to `highest`.
+    pub fn certificate_with_any_ranks(&self, random: &mut Random, highest: usize) -> Vec<u8> {
+        let mut bytes = self.layout().header().to_vec();
+        bytes.extend(self.relation_bytes());
+        while bytes.len() < self.layout().length() {
+            bytes.push(random.within(0, highest) as u8);
+        }
+        bytes
+    }
+
+    /// The same system with left and right exchanged.
+    pub fn exchanged(self) -> System {
+        let related = (0..self.right.states())
+            .map(|t| self.related.iter().map(|row| row[t]).collect())
+            .collect();
+        System {
+            left: self.right,
+            right: self.left,
+            related,
+        }
+    }
+}
+
+pub fn table_bytes(table: &Table) -> Vec<u8> {
+    let mut bytes = b"TPT\0\x01".to_vec();
+    bytes.extend([table.states() as u8, table.start as u8]);
+    bytes.extend((table.steps.len() as u16).to_be_bytes());
+    for mark in &table.marks {
+        bytes.extend(mark.to_be_bytes());
+    }
+    for &Step { from, to } in &table.steps {
+        bytes.extend([from as u8, to as u8]);
+    }
+    bytes
+}
+
+pub fn relation_bytes(related: &[Vec<bool>]) -> Vec<u8> {
+    let mut bytes = Vec::new();
+    for row in related {
+        let word: u64 = (0..row.len()).filter(|&t| row[t]).map(|t| 1u64 << t).sum();
+        bytes.extend(word.to_be_bytes());
+    }
+    bytes
+}

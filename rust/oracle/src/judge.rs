@@ -1,0 +1,106 @@
+//! The judge: does a certificate show that its relation is a well-founded
+//! bisimulation?
+
+use crate::certificate::{read_certificate, Ranks};
+use crate::side::{both_sides, judging_order, test_marks, test_starts, Duty, Look, Side};
+use crate::table::read_table;
+use crate::Answer;
+
+/// The six numbers of the judge.
+pub fn judge(left: &[u8], right: &[u8], certificate: &[u8]) -> Answer {
+    match accept(left, right, certificate) {
+        Ok(answer) => answer,
+        Err(refusal) => refusal,
+    }
+}
+
+/// "The outcome of a duty is met, carrying which of the three clauses, or
+/// failed, carrying 18 or 19."
+enum Outcome {
+    Met(Clause),
+    Failed(u64),
+}
+
+#[derive(Clone, Copy)]
+enum Clause {
+    TwoA,
+    TwoB,
+    TwoC,
+}
+
+/// "The judge accepts with 0, 0, the related pairs as a count of one bits, and
+/// the duties met by 2a, 2b and 2c."
+fn accept(left: &[u8], right: &[u8], certificate: &[u8]) -> Result<Answer, Answer> {
+    let left = read_table(left, 0)?;
+    let right = read_table(right, 1)?;
+    let certificate = read_certificate(certificate, &left, &right)?;
+
+    test_starts(&left, &right, &certificate.related)?;
+    let sides = both_sides(&left, &right, &certificate.related);
+    let mut pairs = 0;
+    let mut met = [0, 0, 0];
+    for look in judging_order(&sides) {
+        match look {
+            Look::Marks { s, t } => {
+                test_marks(&left, &right, s, t)?;
+                pairs += 1;
+            }
+            Look::Duty(duty) => {
+                match outcome(&sides[duty.side], &certificate.ranks[duty.side], duty) {
+                    Outcome::Met(clause) => met[clause as usize] += 1,
+                    Outcome::Failed(code) => return Err(duty.refusal(code)),
+                }
+            }
+        }
+    }
+    Ok([0, 0, pairs, met[0], met[1], met[2]])
+}
+
+/// "It is met by the first of these that holds"
+fn outcome(side: &Side, ranks: &Ranks, duty: Duty) -> Outcome {
+    if clause_2a(side, duty) {
+        Outcome::Met(Clause::TwoA)
+    } else if clause_2b(side, ranks, duty) {
+        Outcome::Met(Clause::TwoB)
+    } else if clause_2c(side, ranks, duty) {
+        Outcome::Met(Clause::TwoC)
+    } else if fails_whatever_the_ranks(side, duty) {
+        Outcome::Failed(18)
+    } else {
+        Outcome::Failed(19)
+    }
+}
+
+/// "2a: some step t to v with u, v related."
+fn clause_2a(side: &Side, duty: Duty) -> bool {
+    side.other
+        .steps
+        .iter()
+        .any(|step| step.from == duty.t && side.related[duty.u][step.to])
+}
+
+/// "2b: u, t related, and the A rank of (u, t) below that of (s, t)."
+fn clause_2b(side: &Side, ranks: &Ranks, duty: Duty) -> bool {
+    side.related[duty.u][duty.t] && ranks.stutter[duty.u][duty.t] < ranks.stutter[duty.s][duty.t]
+}
+
+/// "2c: some step t to v with s, v related, and the C rank of this step at v
+/// below that at t." This step is the step s to u, whose number is j.
+fn clause_2c(side: &Side, ranks: &Ranks, duty: Duty) -> bool {
+    side.other.steps.iter().any(|step| {
+        step.from == duty.t
+            && side.related[duty.s][step.to]
+            && ranks.chase[duty.j][step.to] < ranks.chase[duty.j][duty.t]
+    })
+}
+
+/// "duty unmet; u, t unrelated, no step from t to a state related to s"
+fn fails_whatever_the_ranks(side: &Side, duty: Duty) -> bool {
+    let u_t_unrelated = !side.related[duty.u][duty.t];
+    let no_step_stays_with_s = !side
+        .other
+        .steps
+        .iter()
+        .any(|step| step.from == duty.t && side.related[duty.s][step.to]);
+    u_t_unrelated && no_step_stays_with_s
+}

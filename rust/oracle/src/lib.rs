@@ -1,0 +1,24 @@
+//! A plain judge and a plain maker of stuttering certificates.
+//!
+//! Every notion of the scope document has one function here, and the comment
+//! above it quotes the sentence it follows, so that the two can be read side by
+//! side. Nothing is tuned for speed; `tuned` is, and is checked against the rest.
+
+mod certificate;
+mod judge;
+mod maker;
+mod path;
+mod program;
+mod side;
+mod table;
+pub mod tuned;
+
+pub use certificate::Layout;
+pub use judge::judge;
+pub use maker::make;
+pub use path::path_property;
+pub use program::program;
+pub use table::{Step, Table};
+
+/// "Six numbers: code, file, a, b, c, d."
+pub type Answer = [u64; 6];

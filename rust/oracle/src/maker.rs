@@ -1,0 +1,196 @@
+//! The maker: it works out the ranks for a given relation, where they exist.
+
+use crate::certificate::{read_rows, Layout};
+use crate::side::{both_sides, judging_order, test_marks, test_starts, Look, Side};
+use crate::table::read_table;
+use crate::Answer;
+
+/// "Input: two tables, n1 rows of 8 bytes, an output." On a refusal the output
+/// is left as it was; on success "bytes after L stay".
+pub fn make(left: &[u8], right: &[u8], relation: &[u8], output: &mut [u8]) -> Answer {
+    match certificate_for(left, right, relation, output.len()) {
+        Ok(file) => {
+            output[..file.len()].copy_from_slice(&file);
+            // "The maker succeeds with 0, 0, L."
+            [0, 0, file.len() as u64, 0, 0, 0]
+        }
+        Err(refusal) => refusal,
+    }
+}
+
+/// The certificate to be written, or the refusal. "maker 20, 15, 21, 16, then
+/// pairs and steps in judging order for 17 and 22, then 23, left side first".
+fn certificate_for(
+    left: &[u8],
+    right: &[u8],
+    relation: &[u8],
+    output_length: usize,
+) -> Result<Vec<u8>, Answer> {
+    let left = read_table(left, 0)?;
+    let right = read_table(right, 1)?;
+    let layout = Layout::new(&left, &right);
+
+    // "relation not 8 n1 bytes"
+    if relation.len() != 8 * layout.n1 {
+        return Err([20, 2, 0, 0, 0, 0]);
+    }
+    // "its rows are read as a certificate's": 15.
+    let related = read_rows(relation, layout.n1, layout.n2)?;
+    // "output under L bytes"
+    if output_length < layout.length() {
+        return Err([21, 3, layout.length() as u64, 0, 0, 0]);
+    }
+    test_starts(&left, &right, &related)?;
+
+    let sides = both_sides(&left, &right, &related);
+    let chase = [chase_lengths(&sides[0]), chase_lengths(&sides[1])];
+    for look in judging_order(&sides) {
+        match look {
+            Look::Marks { s, t } => test_marks(&left, &right, s, t)?,
+            Look::Duty(duty) => {
+                // "maker: unmatched duty, u, t unrelated"
+                let unmatched = chase[duty.side][duty.j][duty.t].is_none();
+                if unmatched && !sides[duty.side].related[duty.u][duty.t] {
+                    return Err(duty.refusal(22));
+                }
+            }
+        }
+    }
+
+    let chains = [
+        longest_chains(&sides[0], &chase[0]),
+        longest_chains(&sides[1], &chase[1]),
+    ];
+    test_chains(0, &sides[0], &chains[0])?;
+    test_chains(1, &sides[1], &chains[1])?;
+
+    Ok(write(layout, relation, &chase, &chains))
+}
+
+/// For each own step j and each other state t, the chase length of the duty of
+/// step j at t; `None` where the step is unmatched at t, or where the state it
+/// comes from is unrelated to t, so that there is no duty.
+fn chase_lengths(side: &Side) -> Vec<Vec<Option<usize>>> {
+    (0..side.own.steps.len())
+        .map(|j| {
+            (0..side.other.states())
+                .map(|t| {
+                    let s = side.own.steps[j].from;
+                    if side.related[s][t] {
+                        chase_length(side, s, side.own.steps[j].to, t)
+                    } else {
+                        None
+                    }
+                })
+                .collect()
+        })
+        .collect()
+}
+
+/// "A duty is matched when a list of one or more states, t first, each stepping
+/// to the next and all related to s, has a step from its last state to some v
+/// related to u. The chase length is the least number of steps inside such a
+/// list." `None` means that no list of any length does.
+///
+/// `ends` are the last states of the lists with at most `length` steps inside. A
+/// shortest list has no state twice, so it has fewer steps than there are states.
+fn chase_length(side: &Side, s: usize, u: usize, t: usize) -> Option<usize> {
+    let steps = &side.other.steps;
+    let mut ends = vec![false; side.other.states()];
+    ends[t] = true;
+    for length in 0..side.other.states() {
+        if steps
+            .iter()
+            .any(|step| ends[step.from] && side.related[u][step.to])
+        {
+            return Some(length);
+        }
+        let mut longer = ends.clone();
+        for step in steps {
+            if ends[step.from] && side.related[s][step.to] {
+                longer[step.to] = true;
+            }
+        }
+        if longer == ends {
+            return None;
+        }
+        ends = longer;
+    }
+    None
+}
+
+/// For each other state t and each own state s related to it, "the most steps in
+/// a chain from s of steps unmatched at t through states related to t", counted
+/// up to the number of own states. The result is `[t][s]`.
+fn longest_chains(side: &Side, chase: &[Vec<Option<usize>>]) -> Vec<Vec<usize>> {
+    (0..side.other.states())
+        .map(|t| chains_of_at_most(side, chase, t, side.own.states()))
+        .collect()
+}
+
+/// "For chains of at most k steps it is 0 where k is 0 or no such step leaves s,
+/// else one more than the greatest over the next states for k - 1 [...] for all
+/// states of a side together."
+fn chains_of_at_most(side: &Side, chase: &[Vec<Option<usize>>], t: usize, k: usize) -> Vec<usize> {
+    let mut lengths = vec![0; side.own.states()];
+    if k == 0 {
+        return lengths;
+    }
+    let shorter = chains_of_at_most(side, chase, t, k - 1);
+    for (j, step) in side.own.steps.iter().enumerate() {
+        let inside = side.related[step.from][t] && side.related[step.to][t];
+        let unmatched = chase[j][t].is_none();
+        if inside && unmatched {
+            lengths[step.from] = lengths[step.from].max(1 + shorter[step.to]);
+        }
+    }
+    lengths
+}
+
+/// "maker: a chain as under The maker, of as many steps as that side has states":
+/// 23, with "a side, b the fixed state, c first state of the chain"; "smallest b,
+/// then smallest c".
+fn test_chains(number: u64, side: &Side, chains: &[Vec<usize>]) -> Result<(), Answer> {
+    for fixed in 0..side.other.states() {
+        for first in 0..side.own.states() {
+            if side.related[first][fixed] && chains[fixed][first] == side.own.states() {
+                return Err([23, 2, number, fixed as u64, first as u64, 0]);
+            }
+        }
+    }
+    Ok(())
+}
+
+/// "The file written has the rows given; each C rank of a matched duty is its
+/// chase length, other C ranks 0; each A rank of a related pair is the most steps
+/// in a chain [...], other A ranks 0."
+fn write(
+    layout: Layout,
+    relation: &[u8],
+    chase: &[Vec<Vec<Option<usize>>>; 2],
+    chains: &[Vec<Vec<usize>>; 2],
+) -> Vec<u8> {
+    let Layout { n1, n2, m1, m2 } = layout;
+    let mut file = vec![0; layout.length()];
+    file[..11].copy_from_slice(&layout.header());
+    file[11..11 + 8 * n1].copy_from_slice(relation);
+    // A chain starts with a step from a related state, so the length of the
+    // longest chain is already 0 at an unrelated pair.
+    for s in 0..n1 {
+        for t in 0..n2 {
+            file[layout.al(s, t)] = chains[0][t][s] as u8;
+            file[layout.ar(t, s)] = chains[1][s][t] as u8;
+        }
+    }
+    for j in 0..m1 {
+        for t in 0..n2 {
+            file[layout.cl(j, t)] = chase[0][j][t].unwrap_or(0) as u8;
+        }
+    }
+    for j in 0..m2 {
+        for s in 0..n1 {
+            file[layout.cr(j, s)] = chase[1][j][s].unwrap_or(0) as u8;
+        }
+    }
+    file
+}

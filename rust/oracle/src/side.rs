@@ -1,0 +1,112 @@
+//! The two sides of a pair of tables, and the order in which they are judged.
+
+use crate::table::Table;
+use crate::Answer;
+
+/// "A duty is a related pair (s, t) with a step s to u of the left; or a step of
+/// the right, the sides exchanged throughout." A side is the view from the table
+/// whose step it is: on side 1, `own` is the right table and `other` the left.
+pub struct Side<'a> {
+    pub own: &'a Table,
+    pub other: &'a Table,
+    /// `related[own state][other state]`
+    pub related: Vec<Vec<bool>>,
+}
+
+/// Both sides, the left one first.
+pub fn both_sides<'a>(left: &'a Table, right: &'a Table, related: &[Vec<bool>]) -> [Side<'a>; 2] {
+    let exchanged = (0..right.states())
+        .map(|t| (0..left.states()).map(|s| related[s][t]).collect())
+        .collect();
+    [
+        Side {
+            own: left,
+            other: right,
+            related: related.to_vec(),
+        },
+        Side {
+            own: right,
+            other: left,
+            related: exchanged,
+        },
+    ]
+}
+
+/// A duty: own state s, other state t, and own step j from s to u.
+#[derive(Clone, Copy)]
+pub struct Duty {
+    pub side: usize,
+    pub s: usize,
+    pub t: usize,
+    pub j: usize,
+    pub u: usize,
+}
+
+impl Duty {
+    /// "2, a side, b left state, c right state, d step"
+    pub fn refusal(&self, code: u64) -> Answer {
+        let (left, right) = if self.side == 0 {
+            (self.s, self.t)
+        } else {
+            (self.t, self.s)
+        };
+        [
+            code,
+            2,
+            self.side as u64,
+            left as u64,
+            right as u64,
+            self.j as u64,
+        ]
+    }
+}
+
+/// One thing to look at: the marks of a related pair, or one of its duties.
+pub enum Look {
+    Marks { s: usize, t: usize },
+    Duty(Duty),
+}
+
+/// "Then pairs, s rising, then t rising; in a pair the marks, then left steps
+/// from s in table order, then right steps from t."
+pub fn judging_order(sides: &[Side; 2]) -> Vec<Look> {
+    let (left, right) = (sides[0].own, sides[1].own);
+    let mut looks = Vec::new();
+    for s in 0..left.states() {
+        for t in 0..right.states() {
+            if !sides[0].related[s][t] {
+                continue;
+            }
+            looks.push(Look::Marks { s, t });
+            for j in left.steps_from(s) {
+                let u = left.steps[j].to;
+                let side = 0;
+                looks.push(Look::Duty(Duty { side, s, t, j, u }));
+            }
+            for j in right.steps_from(t) {
+                let u = right.steps[j].to;
+                let (side, s, t) = (1, t, s);
+                looks.push(Look::Duty(Duty { side, s, t, j, u }));
+            }
+        }
+    }
+    looks
+}
+
+/// "starts unrelated": 16, with "a left start, b right start".
+pub fn test_starts(left: &Table, right: &Table, related: &[Vec<bool>]) -> Result<(), Answer> {
+    if related[left.start][right.start] {
+        Ok(())
+    } else {
+        Err([16, 2, left.start as u64, right.start as u64, 0, 0])
+    }
+}
+
+/// "marks differ": 17, with "a s, b t".
+pub fn test_marks(left: &Table, right: &Table, s: usize, t: usize) -> Result<(), Answer> {
+    if left.marks[s] == right.marks[t] {
+        Ok(())
+    } else {
+        Err([17, 2, s as u64, t as u64, 0, 0])
+    }
+}
