@@ -1,1 +1,2 @@
 pub mod Obligation
+pub mod Judging
