@@ -1,5 +1,5 @@
--- The judging order and the judge's verdict (document 01, Duties and clauses; The answer). Starts come first. Then pairs, s rising, then t
--- rising; in a pair the marks, then left steps from s in table order, then right steps from t.
+-- The judging order after the starts, and its verdict (document 01, Duties and clauses; The answer): pairs, s rising, then t rising; in a
+-- pair the marks, then left steps from s in table order, then right steps from t. The starts, cause 16, are tested first and are no check here.
 use Prim.Native.Nat.{ℕ, zero, suc, _+_}
 use mathlib.Core.Bool.{cond}
 use mathlib.Core.List.{List, [], _∷_, _++_, map}
@@ -30,7 +30,7 @@ pub data Check : Type 0 where
 unfoldable pub pairChecks : View → ℕ → ℕ → List Check
 pairChecks v s t = labelsOf s t ∷ map (leftStep s t) (stepsFrom (v .own) s) ++ map (rightStep s t) (stepsFrom (v .other) t)
 
--- All checks in judging order.
+-- All checks of the related pairs, in judging order.
 unfoldable pub checks : View → List Check
 checks v = joinBelow (v .own .states) (λ s. joinBelow (v .other .states) (λ t. cond (v .related s t) (pairChecks v s t) []))
 
