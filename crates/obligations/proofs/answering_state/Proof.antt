@@ -1,9 +1,9 @@
--- `checker::obligation::answering_state` meets its contract: the two words are intersected, and the first state is taken. Assumes nothing.
+-- `obligations::answering_state` meets its contract: the two words are intersected, and the first state is taken. Assumes nothing.
 use mathlib.Core.Path.{ap, _∙_}
 use borrow.Author.Needs.{needs}
 use Rattle.words.specs.Bits.{firstBit}
-use Rattle.checker.proofs.obligation.answering_state.Statement.{statement}
-use Rattle.checker.proofs.obligation.answering_state.Tie as tie
+use Rattle.obligations.proofs.answering_state.Statement.{statement}
+use Rattle.obligations.proofs.answering_state.Tie as tie
 
 intersect-requires : tie.Need-intersect-requires
 intersect-requires c κs = search needs

@@ -1,4 +1,4 @@
--- `checker::obligation::falling_state` meets its contract: the first state of what is left is tested and, where the rank does not fall, taken out,
+-- `obligations::falling_state` meets its contract: the first state of what is left is tested and, where the rank does not fall, taken out,
 -- which keeps the answer; what is left has fewer states each turn. Assumes nothing.
 use Prim.Native.Nat.{ℕ, _^_, _≤_, _<_}
 use mathlib.Core.Path.{_≡_, refl, sym, ap, _∙_}
@@ -8,10 +8,10 @@ use borrow.Author.Needs.{needs}
 use Rattle.lists.specs.Numbers.{byteAt}
 use Rattle.words.specs.Bits.{firstBit, removeBit, countBits}
 use Rattle.words.proofs.BitLaws.{remove-word}
-use Rattle.checker.specs.Obligation.{firstFalling}
-use Rattle.checker.proofs.ObligationLaws.{falling-none, falling-here, falling-next, walk-shorter}
-use Rattle.checker.proofs.obligation.falling_state.Statement.{statement}
-use Rattle.checker.proofs.obligation.falling_state.Tie as tie
+use Rattle.obligations.specs.Obligation.{firstFalling}
+use Rattle.obligations.proofs.ObligationLaws.{falling-none, falling-here, falling-next, walk-shorter}
+use Rattle.obligations.proofs.falling_state.Statement.{statement}
+use Rattle.obligations.proofs.falling_state.Tie as tie
 
 abbrev Inv-loop : tie.InvT-loop
 Inv-loop ranks t here left₀ v₀ left v = (v ≡ firstBit (left .0)) × (left .0 < 2 ^ 64) × (firstFalling (left₀ .0) ranks t ≡ firstFalling (left .0) ranks t)

@@ -15,18 +15,18 @@ use Rattle.lists.proofs.BoolLaws.{and-l, and-r, and-i, eq→eqb, same-T}
 use Rattle.lists.proofs.BelowLaws as below
 use Rattle.words.specs.Bits.{hasBit, firstBit, removeBit, countBits}
 use Rattle.words.proofs.BitLaws as bits
-use Rattle.checker.specs.declared.obligation.Clause.the-variants.{Answer, Stutter, Match}
-use Rattle.checker.specs.declared.obligation.Cause.the-variants.{Apart, Rank}
-use Rattle.checker.specs.declared.obligation.Outcome.the-variants.{Met, Failed}
+use Rattle.obligations.specs.declared.Clause.the-variants.{Answer, Stutter, Match}
+use Rattle.obligations.specs.declared.Cause.the-variants.{Apart, Rank}
+use Rattle.obligations.specs.declared.Outcome.the-variants.{Met, Failed}
 use Rattle.bisimulation.specs.Systems.{View, Ranks}
 use Rattle.bisimulation.specs.Judge.{is2a, is2b, is2c, isMet, firstOf, outcome}
 use Rattle.bisimulation.specs.Triples.{ahead}
 use Rattle.bisimulation.proofs.ClauseLaws.{is2a-e, is2a-i, is2c-e, is2c-i}
-use Rattle.checker.specs.declared.obligation.Clause.{Clause}
-use Rattle.checker.specs.declared.obligation.Cause.{Cause}
-use Rattle.checker.specs.declared.obligation.Outcome.{Outcome}
-use Rattle.checker.specs.declared.obligation.Facing.{Facing}
-use Rattle.checker.specs.Obligation.{firstFalling, outcomeOf, staysAt, isApart, obligationAt, obligationOf, Faces, Ranked}
+use Rattle.obligations.specs.declared.Clause.{Clause}
+use Rattle.obligations.specs.declared.Cause.{Cause}
+use Rattle.obligations.specs.declared.Outcome.{Outcome}
+use Rattle.obligations.specs.declared.Facing.{Facing}
+use Rattle.obligations.specs.Obligation.{firstFalling, outcomeOf, staysAt, isApart, obligationAt, obligationOf, Faces, Ranked}
 
 module _ (ranks : List ℕ) (t : ℕ) where
   -- the rank falls at x

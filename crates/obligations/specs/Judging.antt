@@ -6,10 +6,10 @@ use mathlib.Core.List.{List, [], _∷_, _++_, map}
 use lib.Dec.{eqb}
 use Rattle.bisimulation.specs.Systems.{System, View, Ranks, flip, swap}
 use Rattle.tables.specs.declared.Answer.{Answer}
-use Rattle.checker.specs.Obligation.{clauseNumber, causeNumber, obligationAt}
-use Rattle.checker.specs.declared.obligation.Clause.{Clause}
-use Rattle.checker.specs.declared.obligation.Outcome.{Outcome}
-use Rattle.checker.specs.declared.obligation.Outcome.the-variants.{Met, Failed}
+use Rattle.obligations.specs.Obligation.{clauseNumber, causeNumber, obligationAt}
+use Rattle.obligations.specs.declared.Clause.{Clause}
+use Rattle.obligations.specs.declared.Outcome.{Outcome}
+use Rattle.obligations.specs.declared.Outcome.the-variants.{Met, Failed}
 
 -- The lists of the indices below the bound, one after the other.
 unfoldable pub joinBelow : {A : Type 0} → ℕ → (ℕ → List A) → List A

@@ -1,11 +1,11 @@
--- `checker::obligation::stays` meets its contract: a step that is not silent does not stay, and a silent one where the bit is set. Assumes nothing.
+-- `obligations::stays` meets its contract: a step that is not silent does not stay, and a silent one where the bit is set. Assumes nothing.
 use mathlib.Core.Path.{sym, ap, _∙_}
 use mathlib.Core.Bool.{Bool, _&&_}
 use borrow.Author.Needs.{needs}
 use Rattle.words.specs.Bits.{hasBit}
-use Rattle.checker.specs.Obligation.{staysAt}
-use Rattle.checker.proofs.obligation.stays.Statement.{statement}
-use Rattle.checker.proofs.obligation.stays.Tie as tie
+use Rattle.obligations.specs.Obligation.{staysAt}
+use Rattle.obligations.proofs.stays.Statement.{statement}
+use Rattle.obligations.proofs.stays.Tie as tie
 
 has-requires : tie.Need-has-requires
 has-requires c κs = search needs

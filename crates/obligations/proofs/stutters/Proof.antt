@@ -1,10 +1,10 @@
--- `checker::obligation::stutters` meets its contract: the rank is compared where the step stays. Assumes nothing.
+-- `obligations::stutters` meets its contract: the rank is compared where the step stays. Assumes nothing.
 use mathlib.Core.Path.{sym, ap, _∙_}
 use mathlib.Core.Bool.{Bool, _&&_}
 use lib.Dec.{ltb}
 use borrow.Author.Needs.{needs}
-use Rattle.checker.proofs.obligation.stutters.Statement.{statement}
-use Rattle.checker.proofs.obligation.stutters.Tie as tie
+use Rattle.obligations.proofs.stutters.Statement.{statement}
+use Rattle.obligations.proofs.stutters.Tie as tie
 
 stays-requires : tie.Need-stays-requires
 stays-requires c κs = search needs

@@ -1,4 +1,4 @@
--- `checker::obligation::obligation` meets its contract: each return is the first of the definition's tests that passes, the ones before it having failed. Assumes nothing.
+-- `obligations::obligation` meets its contract: each return is the first of the definition's tests that passes, the ones before it having failed. Assumes nothing.
 use Prim.Native.Nat.{ℕ}
 use mathlib.Core.Path.{_≡_, sym, ap, ap₂, _∙_}
 use mathlib.Core.Bool.{Bool, false, not, _&&_}
@@ -8,10 +8,10 @@ use denote.Ref.{now}
 use borrow.Author.Needs.{needs}
 use borrow.Author.Tests.{lt-ltb, le-ltb}
 use Rattle.words.specs.Bits.{firstBit}
-use Rattle.checker.specs.Obligation.{firstFalling, staysAt, obligationOf}
-use Rattle.checker.proofs.ObligationLaws.{outcome-answer, outcome-stutter, outcome-match, outcome-apart, outcome-rank}
-use Rattle.checker.proofs.obligation.obligation.Statement.{statement}
-use Rattle.checker.proofs.obligation.obligation.Tie as tie
+use Rattle.obligations.specs.Obligation.{firstFalling, staysAt, obligationOf}
+use Rattle.obligations.proofs.ObligationLaws.{outcome-answer, outcome-stutter, outcome-match, outcome-apart, outcome-rank}
+use Rattle.obligations.proofs.obligation.Statement.{statement}
+use Rattle.obligations.proofs.obligation.Tie as tie
 
 -- ---- what each test that failed says
 

@@ -11,13 +11,13 @@ use Rattle.words.specs.Bits.{hasBit, firstBit}
 use Rattle.bisimulation.specs.Systems.{View, Ranks}
 use Rattle.bisimulation.specs.Judge.{is2a, is2b, is2c}
 use Rattle.bisimulation.specs.Triples.{ahead}
-use Rattle.checker.specs.declared.obligation.Clause.{Clause}
-use Rattle.checker.specs.declared.obligation.Clause.the-variants.{Answer, Stutter, Match}
-use Rattle.checker.specs.declared.obligation.Cause.{Cause}
-use Rattle.checker.specs.declared.obligation.Cause.the-variants.{Apart, Rank}
-use Rattle.checker.specs.declared.obligation.Outcome.{Outcome}
-use Rattle.checker.specs.declared.obligation.Outcome.the-variants.{Met, Failed}
-use Rattle.checker.specs.declared.obligation.Facing.{Facing}
+use Rattle.obligations.specs.declared.Clause.{Clause}
+use Rattle.obligations.specs.declared.Clause.the-variants.{Answer, Stutter, Match}
+use Rattle.obligations.specs.declared.Cause.{Cause}
+use Rattle.obligations.specs.declared.Cause.the-variants.{Apart, Rank}
+use Rattle.obligations.specs.declared.Outcome.{Outcome}
+use Rattle.obligations.specs.declared.Outcome.the-variants.{Met, Failed}
+use Rattle.obligations.specs.declared.Facing.{Facing}
 
 -- The clauses are printed as 1, 2 and 3.
 abbrev pub clauseNumber : Clause → ℕ

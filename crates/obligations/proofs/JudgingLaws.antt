@@ -14,13 +14,13 @@ use Rattle.tables.specs.declared.Answer.{Answer}
 use Rattle.bisimulation.specs.Systems.{System, View, Ranks, WellFormed, flip, swap}
 use Rattle.bisimulation.specs.Judge.{isMet, outcome, labelsEqual, obligationsMet}
 use Rattle.bisimulation.proofs.ClauseLaws.{flip-formed, pairs-e, pairs-i, steps-e, steps-i, labels-e, labels-i}
-use Rattle.checker.specs.Obligation.{obligationAt}
-use Rattle.checker.specs.Judging.{joinBelow, stepsFrom, Check, labelsOf, leftStep, rightStep, pairChecks, checks, Result, passes, metBy, stops, stepResult, result, Verdict, accepted, refusedWith, andThen, verdict, isBy, countBy, isObligation, countObligations}
-use Rattle.checker.specs.declared.obligation.Clause.{Clause}
-use Rattle.checker.specs.declared.obligation.Clause.the-variants.{Answer as Answered, Stutter as Stuttered, Match as Matched}
-use Rattle.checker.specs.declared.obligation.Outcome.{Outcome}
-use Rattle.checker.specs.declared.obligation.Outcome.the-variants.{Met, Failed}
-use Rattle.checker.proofs.ObligationLaws.{met-iff}
+use Rattle.obligations.specs.Obligation.{obligationAt}
+use Rattle.obligations.specs.Judging.{joinBelow, stepsFrom, Check, labelsOf, leftStep, rightStep, pairChecks, checks, Result, passes, metBy, stops, stepResult, result, Verdict, accepted, refusedWith, andThen, verdict, isBy, countBy, isObligation, countObligations}
+use Rattle.obligations.specs.declared.Clause.{Clause}
+use Rattle.obligations.specs.declared.Clause.the-variants.{Answer as Answered, Stutter as Stuttered, Match as Matched}
+use Rattle.obligations.specs.declared.Outcome.{Outcome}
+use Rattle.obligations.specs.declared.Outcome.the-variants.{Met, Failed}
+use Rattle.obligations.proofs.ObligationLaws.{met-iff}
 
 -- ---- what holds of all elements of joined lists
 

@@ -7,7 +7,7 @@ ghost use lib.Bits.{bitAnd};
 ghost use lib.Dec.{ltb};
 ghost use mathlib.Core.Bool.{_&&_};
 ghost use Rattle.words.specs.Bits.{firstBit};
-ghost use Rattle.checker.specs.Obligation.{firstFalling, staysAt, obligationOf, clauseNumber, causeNumber};
+ghost use Rattle.obligations.specs.Obligation.{firstFalling, staysAt, obligationOf, clauseNumber, causeNumber};
 
 // The clause that meets an obligation: 2a, 2b or 2c.
 pub enum Clause {

@@ -1,2 +1,0 @@
-// What the judge is made of. One obligation is tested on words of states.
-pub mod obligation;
