@@ -1,0 +1,55 @@
+-- The judge's answer for any three byte strings (document 01, The answer): 1 to 9 of the left table and of the right, 10 to 15, then 16, then
+-- labels and obligations in judging order; the first cause that applies, or the counts.
+use Prim.Native.Nat.{ℕ}
+use mathlib.Core.Bool.{cond}
+use mathlib.Core.List.{List}
+use Rattle.lists.specs.Below.{sumBelow}
+use Rattle.words.specs.Bits.{countBits}
+use Rattle.bisimulation.specs.Systems.{View, Ranks}
+use Rattle.tables.specs.Table.{readTable, statesOf, startOf}
+use Rattle.tables.specs.Answers.{tableAnswer}
+use Rattle.tables.specs.declared.Answer.{Answer}
+use Rattle.tables.specs.declared.TableRead.{TableRead}
+use Rattle.tables.specs.declared.TableRead.the-variants as table
+use Rattle.certificates.specs.Layout.{sizesOf, rowsPart, rowOf}
+use Rattle.certificates.specs.Certificate.{readCertificate}
+use Rattle.certificates.specs.CertificateAnswers.{certificateAnswer}
+use Rattle.certificates.specs.CertificateModel.{viewOf, ranksOf}
+use Rattle.certificates.specs.declared.CertificateRead.{CertificateRead}
+use Rattle.certificates.specs.declared.CertificateRead.the-variants as certificate
+use Rattle.obligations.specs.Judging.{checks, Verdict, accepted, refusedWith, verdict, countBy}
+use Rattle.obligations.specs.declared.Clause.the-variants.{Answer as Answered, Stutter as Stuttered, Match as Matched}
+
+-- The refusal of a table, or what follows where it is good.
+abbrev pub tableThen : TableRead → ℕ → Answer → Answer
+tableThen (table.Good head) file rest = rest
+tableThen (table.Refused refusal) file rest = tableAnswer refusal file
+
+-- The refusal of a certificate, or what follows where it is good.
+abbrev pub certificateThen : CertificateRead → Answer → Answer
+certificateThen (certificate.Good sizes) rest = rest
+certificateThen (certificate.Refused refusal) rest = certificateAnswer refusal 2
+
+-- The related pairs, as a count of one bits over the rows.
+unfoldable pub pairsIn : List ℕ → ℕ → ℕ
+pairsIn rows n1 = sumBelow n1 (λ s. countBits (rowOf rows s))
+
+-- The first check that stops the judge, or the related pairs and the obligations met by 2a, 2b and 2c.
+abbrev pub verdictAnswer : View → Ranks → ℕ → Verdict → Answer
+verdictAnswer v r pairs accepted =
+    record { code = 0; file = 0; a = pairs; b = countBy v r Answered (checks v); c = countBy v r Stuttered (checks v); d = countBy v r Matched (checks v) }
+verdictAnswer v r pairs (refusedWith answer) = answer
+
+-- 16 where the starts are unrelated, then the verdict.
+unfoldable pub judged : View → Ranks → ℕ → ℕ → ℕ → Answer
+judged v r pairs left right =
+    cond (v .related left right) (verdictAnswer v r pairs (verdict v r (checks v))) (record { code = 16; file = 2; a = left; b = right; c = 0; d = 0 })
+
+unfoldable pub judgeAnswer : List ℕ → List ℕ → List ℕ → Answer
+judgeAnswer left right c =
+    let z = sizesOf left right in
+    let rows = rowsPart c z in
+    tableThen (readTable left) 0
+    (tableThen (readTable right) 1
+    (certificateThen (readCertificate z c)
+    (judged (viewOf left right rows) (ranksOf z c) (pairsIn rows (statesOf left)) (startOf left) (startOf right))))

@@ -1,0 +1,3 @@
+pub mod Progress
+pub mod Plan
+pub mod Judge

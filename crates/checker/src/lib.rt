@@ -1,0 +1,400 @@
+// The judge: six numbers for any three byte strings. What it looks at is worked out once a call, as words, so that an obligation costs a few
+// instructions and no list of steps is searched for one.
+use certificates::CertificateRead;
+use certificates::Sizes;
+use certificates::read_certificate;
+use certificates::row;
+use certificates::rows;
+use lists::byte;
+use lists::part_of;
+use obligations::Cause;
+use obligations::Clause;
+use obligations::Facing;
+use obligations::Outcome;
+use obligations::obligation;
+use tables::Answer;
+use tables::TableRead;
+use tables::from;
+use tables::label;
+use tables::labels;
+use tables::read_table;
+use tables::steps;
+use tables::to;
+use words::Row;
+ghost use mathlib.Core.Path.{_≡_};
+ghost use mathlib.Core.List.{_++_};
+ghost use Prim.Native.Nat.{ℕ, _+_, _*_, _^_, _≤_, _<_};
+ghost use lib.ListN.{length, getD, drop};
+ghost use Rattle.tables.specs.Table.{fromOf, toOf};
+ghost use Rattle.words.specs.Bits.{hasBit};
+ghost use Rattle.certificates.specs.CertificateModel.{relatedIn};
+ghost use Rattle.certificates.specs.declared.Sizes.{Sizes};
+ghost use Rattle.checker.specs.Progress.{none, addTo, total, progress};
+ghost use Rattle.checker.specs.Plan.{stepsIn, relativesOf, StatesPlanned, StepsPlanned, StepsFit, Links, Small, Within, leftRun, rightRun, failedAt, rankAt, outcomeAt, stepChecks, checksAt, rowChecks, allChecks};
+ghost use Rattle.checker.specs.Judge.{judgeAnswer};
+
+// How many obligations each clause has met.
+struct Tally {
+    answers: usize,
+    stutters: usize,
+    matches: usize,
+}
+
+// Whether the judge goes on, with the obligations counted so far, or stops with an answer.
+enum Progress {
+    On(Tally),
+    Stop(Answer),
+}
+
+// Where the A ranks and the C ranks of a side begin in a certificate, and how many states the other side has.
+struct Run {
+    stutter: usize,
+    matches: usize,
+    states: usize,
+}
+
+// A related pair, seen from a side: 0 left, 1 right.
+struct Place {
+    side: usize,
+    own: usize,
+    other: usize,
+}
+
+impl Tally {
+    fn add(self, clause: Clause) -> Tally
+        requires { ⌜ total self < 2 ^ 32 ⌝ }
+        ensures { λ r. ⌜ r ≡ addTo self clause ⌝ }
+    {
+        match clause {
+            Clause::Answer => Tally {
+                answers: self.answers + 1,
+                stutters: self.stutters,
+                matches: self.matches,
+            },
+            Clause::Stutter => Tally {
+                answers: self.answers,
+                stutters: self.stutters + 1,
+                matches: self.matches,
+            },
+            Clause::Match => Tally {
+                answers: self.answers,
+                stutters: self.stutters,
+                matches: self.matches + 1,
+            },
+        }
+    }
+}
+
+impl Run {
+    // The left side's runs.
+    fn left(sizes: Sizes) -> Run
+        ensures { λ r. ⌜ r ≡ leftRun sizes ⌝ }
+    {
+        Run {
+            stutter: sizes.al_at(),
+            matches: sizes.cl_at(),
+            states: sizes.n2 as usize,
+        }
+    }
+
+    // The right side's runs.
+    fn right(sizes: Sizes) -> Run
+        ensures { λ r. ⌜ r ≡ rightRun sizes ⌝ }
+    {
+        Run {
+            stutter: sizes.ar_at(),
+            matches: sizes.cr_at(),
+            states: sizes.n1 as usize,
+        }
+    }
+}
+
+// The answer where the obligation of own step j fails at the place.
+fn failed(place: Place, j: usize, cause: Cause) -> Answer
+    ensures { λ r. ⌜ r ≡ failedAt place j cause ⌝ }
+{
+    let code = cause.number();
+    if place.side == 0 {
+        return Answer {
+            code,
+            file: 2,
+            a: 0,
+            b: place.own,
+            c: place.other,
+            d: j,
+        };
+    }
+    Answer {
+        code,
+        file: 2,
+        a: place.side,
+        b: place.other,
+        c: place.own,
+        d: j,
+    }
+}
+
+// The A rank of the own state s at the place's other state.
+fn rank_at(certificate: &[u8], run: Run, place: Place, s: usize) -> usize
+    requires { ⌜ Within run place × (s < 256) ⌝ }
+    ensures { λ r. ⌜ r ≡ rankAt (now (certificate .entry)) run place s ⌝ }
+{
+    let at = run.stutter;
+    let n = run.states;
+    let t = place.other;
+    byte(certificate, at + (s * n + t))
+}
+
+// The certificate from the C ranks of own step j on.
+fn ranks_from(certificate: &[u8], run: Run, j: usize) -> &[u8]
+    requires { ⌜ (run .matches < 2 ^ 32) × (run .states < 256) × (j < 256) ⌝ }
+    ensures { λ r. ⌜ now r ≡ drop (run .matches + j * run .states) (now (certificate .entry)) ⌝ }
+{
+    let at = run.matches;
+    let n = run.states;
+    part_of(certificate, at + j * n, certificate.len())
+}
+
+// The outcome of the obligation of own step j at the place. `ahead` has the states that steps from the place's other state enter.
+fn outcome_at(
+    steps: &[u8],
+    plan: &[u64],
+    ahead: Row,
+    certificate: &[u8],
+    run: Run,
+    place: Place,
+    j: usize,
+) -> Outcome
+    requires { ⌜ (length (now plan) ≡ 512) × Within run place × (j < 256) ⌝ }
+    ensures { λ r. ⌜ r ≡ outcomeAt (now (steps .entry)) (now (plan .entry)) (ahead .0) (now (certificate .entry)) run place j ⌝ }
+{
+    let s = place.own;
+    let u = to(steps, j);
+    let facing = Facing {
+        from: Row(plan[s]),
+        to: Row(plan[u]),
+        answering: ahead,
+        silent: ahead,
+        quiet: true,
+    };
+    let before = rank_at(certificate, run, place, s);
+    let after = rank_at(certificate, run, place, u);
+    let ranks = ranks_from(certificate, run, j);
+    obligation(facing, place.other, before, after, ranks)
+}
+
+// The obligations of the own steps from the place's own state, in table order.
+fn sweep(
+    steps: &[u8],
+    plan: &[u64],
+    ahead: Row,
+    certificate: &[u8],
+    run: Run,
+    place: Place,
+    tally: Tally,
+) -> Progress
+    requires { ⌜ Links (now steps) (now plan) × Within run place × (total tally < 2 ^ 31) ⌝ }
+    ensures { λ r. ⌜ r ≡ progress (stepChecks (now (steps .entry)) (now (plan .entry)) (ahead .0) (now (certificate .entry)) run place) tally ⌝ }
+{
+    let s = place.own;
+    let mut met = tally;
+    let mut j = plan[128 + s] as usize;
+    while j < 256 {
+        let outcome = outcome_at(steps, plan, ahead, certificate, run, place, j);
+        match outcome {
+            Outcome::Met(clause) => {
+                met = met.add(clause);
+            }
+            Outcome::Failed(cause) => {
+                return Progress::Stop(failed(place, j, cause));
+            }
+        }
+        j = plan[256 + j] as usize;
+    }
+    Progress::On(met)
+}
+
+// The checks of the related pair s, t: the labels, then the left steps from s, then the right steps from t.
+fn check_pair(
+    left: &[u8],
+    right: &[u8],
+    ours: &[u64],
+    theirs: &[u64],
+    certificate: &[u8],
+    sizes: Sizes,
+    s: usize,
+    t: usize,
+    tally: Tally,
+) -> Progress
+    requires { ⌜ Links (now left) (now ours) × Links (now right) (now theirs) × Small sizes × (s < 64) × (t < 64) × (total tally < 2 ^ 30) ⌝ }
+    ensures { λ r. ⌜ r ≡ progress (checksAt (now (left .entry)) (now (right .entry)) (now (ours .entry)) (now (theirs .entry)) (now (certificate .entry)) sizes s t) tally ⌝ }
+{
+    if ours[192 + s] != theirs[192 + t] {
+        return Progress::Stop(Answer {
+            code: 17,
+            file: 2,
+            a: s,
+            b: t,
+            c: 0,
+            d: 0,
+        });
+    }
+    let from_s = Place {
+        side: 0,
+        own: s,
+        other: t,
+    };
+    let first = sweep(
+        left,
+        ours,
+        Row(theirs[64 + t]),
+        certificate,
+        Run::left(sizes),
+        from_s,
+        tally,
+    );
+    let Progress::On(met) = first else {
+        return first;
+    };
+    let from_t = Place {
+        side: 1,
+        own: t,
+        other: s,
+    };
+    sweep(
+        right,
+        theirs,
+        Row(ours[64 + s]),
+        certificate,
+        Run::right(sizes),
+        from_t,
+        met,
+    )
+}
+
+// The checks of the left state s with the states related to it, in rising order.
+fn check_row(
+    left: &[u8],
+    right: &[u8],
+    ours: &[u64],
+    theirs: &[u64],
+    certificate: &[u8],
+    sizes: Sizes,
+    s: usize,
+    tally: Tally,
+) -> Progress
+    requires { ⌜ Links (now left) (now ours) × Links (now right) (now theirs) × Small sizes × (s < 64) × (total tally < 2 ^ 29) ⌝ }
+    ensures { λ r. ⌜ r ≡ progress (rowChecks (now (left .entry)) (now (right .entry)) (now (ours .entry)) (now (theirs .entry)) (now (certificate .entry)) sizes s) tally ⌝ }
+{
+    let mut met = tally;
+    let mut rest = Row(ours[s]);
+    let mut t = rest.first();
+    while t < 64 {
+        let next = check_pair(left, right, ours, theirs, certificate, sizes, s, t, met);
+        let Progress::On(more) = next else {
+            return next;
+        };
+        met = more;
+        rest = rest.remove(t);
+        t = rest.first();
+    }
+    Progress::On(met)
+}
+
+// All checks after the starts, in judging order.
+fn check_all(
+    left: &[u8],
+    right: &[u8],
+    ours: &[u64],
+    theirs: &[u64],
+    certificate: &[u8],
+    sizes: Sizes,
+) -> Progress
+    requires { ⌜ Links (now left) (now ours) × Links (now right) (now theirs) × Small sizes × (sizes .n1 ≤ 64) ⌝ }
+    ensures { λ r. ⌜ r ≡ progress (allChecks (now (left .entry)) (now (right .entry)) (now (ours .entry)) (now (theirs .entry)) (now (certificate .entry)) sizes) none ⌝ }
+{
+    let n = sizes.n1 as usize;
+    let mut met = Tally {
+        answers: 0,
+        stutters: 0,
+        matches: 0,
+    };
+    let mut s: usize = 0;
+    while s < n {
+        let next = check_row(left, right, ours, theirs, certificate, sizes, s, met);
+        let Progress::On(more) = next else {
+            return next;
+        };
+        met = more;
+        s += 1;
+    }
+    Progress::On(met)
+}
+
+// The states s of the left, of n1, that are related to t.
+fn column(rows: &[u8], n1: usize, t: usize) -> Row
+    requires { ⌜ n1 ≤ 64 ⌝ }
+    ensures { λ r. ⌜ ((s : ℕ) → hasBit (r .0) s ≡ relatedIn (now (rows .entry)) n1 s t) ⌝ }
+{
+    let mut states = Row::empty();
+    let mut s: usize = 0;
+    while s < n1 {
+        let word = row(rows, s);
+        if word.has(t) {
+            states = states.add(s);
+        }
+        s += 1;
+    }
+    states
+}
+
+// The states that are related to the state s of the side.
+fn relatives(rows: &[u8], n1: usize, side: usize, s: usize) -> Row
+    requires { ⌜ n1 ≤ 64 ⌝ }
+    ensures { λ r. ⌜ ((t : ℕ) → hasBit (r .0) t ≡ relativesOf (now (rows .entry)) n1 side s t) ⌝ }
+{
+    if side != 0 {
+        return column(rows, n1, s);
+    }
+    if s < n1 {
+        return row(rows, s);
+    }
+    Row::empty()
+}
+
+// The plan's words of states: their relatives and labels, and no step yet.
+fn plan_states(labels: &[u8], rows: &[u8], n1: usize, side: usize) -> [u64; 512]
+    requires { ⌜ n1 ≤ 64 ⌝ }
+    ensures { λ r. ⌜ StatesPlanned (now (labels .entry)) (now (rows .entry)) n1 side 64 r ⌝ }
+{
+    let mut plan: [u64; 512] = [0; 512];
+    let mut s: usize = 0;
+    while s < 64 {
+        let word = relatives(rows, n1, side, s);
+        plan[s] = word.0;
+        plan[128 + s] = 256;
+        plan[192 + s] = label(labels, s);
+        s += 1;
+    }
+    plan
+}
+
+// The plan with the steps linked, from the last to the first.
+fn plan_steps(states: [u64; 512], steps: &[u8]) -> [u64; 512]
+    requires { ⌜ StepsFit (now steps) × StepsPlanned (now steps) states (stepsIn (now steps)) states ⌝ }
+    ensures { λ r. ⌜ StepsPlanned (now (steps .entry)) states 0 r ⌝ }
+{
+    let mut plan = states;
+    let mut j = steps.len() / 2;
+    while 0 < j {
+        j -= 1;
+        let s = from(steps, j);
+        let first = plan[128 + s];
+        let entered = Row(plan[64 + s]);
+        let more = entered.add(to(steps, j));
+        plan[64 + s] = more.0;
+        plan[128 + s] = j as u64;
+        plan[256 + j] = first;
+    }
+    plan
+}
