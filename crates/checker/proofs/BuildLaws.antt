@@ -12,18 +12,18 @@ use lib.Dec.{T, eqb, ltb, leb, eqb→eq, leb→le, le→leb}
 use lib.ListN.{length, getD, set, length-set}
 use lib.Seq.{getD-set-same, getD-set-other}
 use borrow.Author.Count.{below-more}
-use borrow.Author.Tests.{lt-ltb, le-ltb, lt-leb, eq-eqb, ne-eqb}
+use borrow.Author.Tests.{lt-ltb, le-ltb, le-leb, eq-eqb, ne-eqb}
 use Rattle.lists.specs.Below.{anyBelow}
 use Rattle.lists.specs.Lists.{tabulate}
 use Rattle.lists.proofs.FillLaws.{length-tabulate, getD-tabulate, getD-past}
-use Rattle.lists.proofs.BoolLaws.{and-l, and-r, and-i, or-e, or-l, or-r, same-T, eq→eqb}
+use Rattle.lists.proofs.BoolLaws.{and-l, and-r, and-i, or-e, or-l, or-r, not-T-false, same-T, eq→eqb}
 use Rattle.lists.proofs.BelowLaws.{any-e, any-i, any-cong}
 use Rattle.words.specs.Bits.{hasBit, addBit}
 use Rattle.words.proofs.BitLaws.{has-add-below, has-empty, add-word}
 use Rattle.tables.specs.Table.{labelOf, fromOf, toOf}
 use Rattle.certificates.specs.Layout.{rowOf}
 use Rattle.certificates.specs.CertificateModel.{relatedIn}
-use Rattle.checker.specs.Plan.{stepsIn, NextFrom, relativesOf, StatesPlanned, StepsPlanned, StepsFit, Links}
+use Rattle.checker.specs.Plan.{stepsIn, NextFrom, relativesOf, StatesPlanned, StepsPlanned, StepsFit, PlanOf, Links}
 
 -- ---- three stores in a list
 
@@ -213,4 +213,38 @@ states-none labels rows n1 side {l} e =
       no-successors = λ s h. z (64 + s);
       no-steps = λ s h. absurd (not-suc-le-zero h);
       labels-are = λ s h. absurd (not-suc-le-zero h);
+    }
+
+-- no step is linked yet
+pub steps-none : {labels rows : List ℕ} {n1 side : ℕ} {l : List ℕ} (steps : List ℕ) → StepsFit steps → StatesPlanned labels rows n1 side 64 l → StepsPlanned steps l (stepsIn steps) l
+steps-none {labels} {rows} {n1} {side} {l} steps fit w =
+    let f = fit .few in
+    record {
+      room = w .room;
+      words = w .words;
+      related-kept = λ s h. refl;
+      labels-kept = λ s h. refl;
+      successors-are = λ s h u.
+          ap (λ (x : ℕ). hasBit x u) (w .no-successors s h) ∙ has-empty u
+          ∙ sym (not-T-false _ (none-from s u));
+      first = λ s h. rw (w .no-steps s h) (record { reached = f; none = λ i a b c d. omega arith; here = λ b. absurd (omega arith) });
+      next = λ j a b. absurd (omega arith);
+    }
+  where
+    none-from : (s u : ℕ) → T (anyBelow (stepsIn steps) (λ k. leb (stepsIn steps) k && (eqb (fromOf steps k) s && eqb (toOf steps k) u))) → ⊥
+    none-from s u b =
+        let q = any-e _ _ b in
+        let a : stepsIn steps ≤ q .0 = leb→le _ _ (and-l (leb (stepsIn steps) (q .0)) _ (q .2)) in
+        omega (arith, a, q .1)
+
+-- all are
+pub plan-is : {labels rows : List ℕ} {n1 side : ℕ} {l : List ℕ} (steps plan : List ℕ) → StepsFit steps → StatesPlanned labels rows n1 side 64 l → StepsPlanned steps l 0 plan
+    → PlanOf labels rows n1 side steps plan
+plan-is steps plan fit w p =
+    record {
+      words = p .words;
+      related-are = λ s h t. ap (λ (x : ℕ). hasBit x t) (p .related-kept s h) ∙ w .related-are s h t;
+      successors-are = λ s h u. p .successors-are s h u ∙ any-cong _ _ _ (λ k l. rw (le-leb 0 k (omega arith)));
+      labels-are = λ s h. p .labels-kept s h ∙ w .labels-are s h;
+      links = record { few = fit .few; room = p .room; first = p .first; next = λ j l. p .next j (omega arith) l };
     }

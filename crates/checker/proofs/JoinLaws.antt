@@ -72,7 +72,7 @@ module _ {A : Type 0} where
       let e = length-append (f 0) (joinBelow n (λ i. f (suc i))) in
       omega arith
 
-map-append : {A B : Type 0} (g : A → B) (xs ys : List A) → map g (xs ++ ys) ≡ map g xs ++ map g ys
+pub map-append : {A B : Type 0} (g : A → B) (xs ys : List A) → map g (xs ++ ys) ≡ map g xs ++ map g ys
 map-append g [] ys = refl
 map-append g (x ∷ xs) ys = ap (λ (l : List _). g x ∷ l) (map-append g xs ys)
 
@@ -84,3 +84,10 @@ map-join g (suc n) f = map-append g (f 0) _ ∙ ap (λ (l : List _). map g (f 0)
 pub map-when : {A B : Type 0} (g : A → B) (b : Bool) (xs : List A) → map g (cond b xs []) ≡ cond b (map g xs) []
 map-when g true xs = refl
 map-when g false xs = refl
+
+-- nothing stands from n on
+pub join-shrink : {A : Type 0} (n m : ℕ) (f : ℕ → List A) → n ≤ m → ((i : ℕ) → n ≤ i → i < m → f i ≡ []) → joinBelow m f ≡ joinBelow n f
+unfolding joinBelow
+join-shrink zero m f h none = join-none m f (λ i l. none i zero-le l)
+join-shrink (suc n) zero f h none = absurd (not-suc-le-zero h)
+join-shrink (suc n) (suc m) f h none = ap (λ (l : List _). f 0 ++ l) (join-shrink n m (λ i. f (suc i)) (le-of-suc-le-suc h) (λ i b l. none (suc i) (suc-le-suc b) (suc-le-suc l)))

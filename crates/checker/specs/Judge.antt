@@ -1,6 +1,7 @@
 -- The judge's answer for any three byte strings (document 01, The answer): 1 to 9 of the left table and of the right, 10 to 15, then 16, then
 -- labels and obligations in judging order; the first cause that applies, or the counts.
 use Prim.Native.Nat.{ℕ}
+use mathlib.Core.Path.{_≡_}
 use mathlib.Core.Bool.{cond}
 use mathlib.Core.List.{List}
 use Rattle.lists.specs.Below.{sumBelow}
@@ -9,16 +10,22 @@ use Rattle.bisimulation.specs.Systems.{View, Ranks}
 use Rattle.tables.specs.Table.{readTable, statesOf, startOf}
 use Rattle.tables.specs.Answers.{tableAnswer}
 use Rattle.tables.specs.declared.Answer.{Answer}
+use Rattle.tables.specs.declared.Head.{Head}
 use Rattle.tables.specs.declared.TableRead.{TableRead}
 use Rattle.tables.specs.declared.TableRead.the-variants as table
 use Rattle.certificates.specs.Layout.{sizesOf, rowsPart, rowOf}
 use Rattle.certificates.specs.Certificate.{readCertificate}
 use Rattle.certificates.specs.CertificateAnswers.{certificateAnswer}
 use Rattle.certificates.specs.CertificateModel.{viewOf, ranksOf}
+use Rattle.certificates.specs.declared.Sizes.{Sizes}
 use Rattle.certificates.specs.declared.CertificateRead.{CertificateRead}
 use Rattle.certificates.specs.declared.CertificateRead.the-variants as certificate
 use Rattle.obligations.specs.Judging.{checks, Verdict, accepted, refusedWith, verdict, countBy}
 use Rattle.obligations.specs.declared.Clause.the-variants.{Answer as Answered, Stutter as Stuttered, Match as Matched}
+
+-- No number at all.
+abbrev pub blank : Answer
+blank = record { code = 0; file = 0; a = 0; b = 0; c = 0; d = 0 }
 
 -- The refusal of a table, or what follows where it is good.
 abbrev pub tableThen : TableRead → ℕ → Answer → Answer
@@ -29,6 +36,15 @@ tableThen (table.Refused refusal) file rest = tableAnswer refusal file
 abbrev pub certificateThen : CertificateRead → Answer → Answer
 certificateThen (certificate.Good sizes) rest = rest
 certificateThen (certificate.Refused refusal) rest = certificateAnswer refusal 2
+
+-- Both tables and the certificate are read.
+pub record AllRead (left right c : List ℕ) : Type 0 where
+  pub head : Head
+  pub head′ : Head
+  pub sizes : Sizes
+  pub left-good : readTable left ≡ table.Good head
+  pub right-good : readTable right ≡ table.Good head′
+  pub certificate-good : readCertificate (sizesOf left right) c ≡ certificate.Good sizes
 
 -- The related pairs, as a count of one bits over the rows.
 unfoldable pub pairsIn : List ℕ → ℕ → ℕ
@@ -45,11 +61,16 @@ unfoldable pub judged : View → Ranks → ℕ → ℕ → ℕ → Answer
 judged v r pairs left right =
     cond (v .related left right) (verdictAnswer v r pairs (verdict v r (checks v))) (record { code = 16; file = 2; a = left; b = right; c = 0; d = 0 })
 
-unfoldable pub judgeAnswer : List ℕ → List ℕ → List ℕ → Answer
-judgeAnswer left right c =
+-- The same for the view and the ranks that the bytes give.
+unfoldable pub judgedBytes : List ℕ → List ℕ → List ℕ → ℕ → ℕ → Answer
+judgedBytes left right c start start′ =
     let z = sizesOf left right in
     let rows = rowsPart c z in
+    judged (viewOf left right rows) (ranksOf z c) (pairsIn rows (statesOf left)) start start′
+
+unfoldable pub judgeAnswer : List ℕ → List ℕ → List ℕ → Answer
+judgeAnswer left right c =
     tableThen (readTable left) 0
     (tableThen (readTable right) 1
-    (certificateThen (readCertificate z c)
-    (judged (viewOf left right rows) (ranksOf z c) (pairsIn rows (statesOf left)) (startOf left) (startOf right))))
+    (certificateThen (readCertificate (sizesOf left right) c)
+    (judgedBytes left right c (startOf left) (startOf right))))

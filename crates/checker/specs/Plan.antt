@@ -64,6 +64,14 @@ pub record StepsPlanned (steps before : List ℕ) (a : ℕ) (plan : List ℕ) : 
   pub first : (s : ℕ) → s < 64 → NextFrom steps s a (getD plan (128 + s) 0)
   pub next : (j : ℕ) → a ≤ j → j < stepsIn steps → NextFrom steps (fromOf steps j) (j + 1) (getD plan (256 + j) 0)
 
+-- The whole plan of a side.
+pub record PlanOf (labels rows : List ℕ) (n1 side : ℕ) (steps plan : List ℕ) : Type 0 where
+  pub words : (i : ℕ) → getD plan i 0 < 2 ^ 64
+  pub related-are : (s : ℕ) → s < 64 → (t : ℕ) → hasBit (getD plan s 0) t ≡ relativesOf rows n1 side s t
+  pub successors-are : (s : ℕ) → s < 64 → (u : ℕ) → hasBit (getD plan (64 + s) 0) u ≡ anyBelow (stepsIn steps) (λ k. eqb (fromOf steps k) s && eqb (toOf steps k) u)
+  pub labels-are : (s : ℕ) → s < 64 → getD plan (192 + s) 0 ≡ labelOf labels s
+  pub links : Links steps plan
+
 -- At most 256 steps, and their ends are below 64.
 pub record StepsFit (steps : List ℕ) : Type 0 where
   pub few : stepsIn steps ≤ 256

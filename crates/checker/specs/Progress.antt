@@ -3,7 +3,8 @@ use Prim.Native.Nat.{ℕ, _+_}
 use mathlib.Core.List.{List, [], _∷_}
 use Rattle.obligations.specs.Judging.{Result, passes, metBy, stops}
 use Rattle.obligations.specs.declared.Clause.{Clause}
-use Rattle.obligations.specs.declared.Clause.the-variants.{Answer, Stutter, Match}
+use Rattle.obligations.specs.declared.Clause.the-variants.{Answer as Answered, Stutter as Stuttered, Match as Matched}
+use Rattle.tables.specs.declared.Answer.{Answer}
 use Rattle.checker.specs.declared.Tally.{Tally}
 use Rattle.checker.specs.declared.Progress.{Progress}
 use Rattle.checker.specs.declared.Progress.the-variants.{On, Stop}
@@ -14,9 +15,9 @@ none = record { answers = 0; stutters = 0; matches = 0 }
 
 -- One obligation more, met by the clause.
 abbrev pub addTo : Tally → Clause → Tally
-addTo y Answer = record { answers = y .answers + 1; stutters = y .stutters; matches = y .matches }
-addTo y Stutter = record { answers = y .answers; stutters = y .stutters + 1; matches = y .matches }
-addTo y Match = record { answers = y .answers; stutters = y .stutters; matches = y .matches + 1 }
+addTo y Answered = record { answers = y .answers + 1; stutters = y .stutters; matches = y .matches }
+addTo y Stuttered = record { answers = y .answers; stutters = y .stutters + 1; matches = y .matches }
+addTo y Matched = record { answers = y .answers; stutters = y .stutters; matches = y .matches + 1 }
 
 -- How many obligations were counted.
 abbrev pub total : Tally → ℕ
@@ -31,3 +32,8 @@ after (stops answer) y on = Stop answer
 unfoldable pub progress : List Result → Tally → Progress
 progress [] y = On y
 progress (x ∷ xs) y = after x y (progress xs)
+
+-- The answer at the end of all checks.
+abbrev pub endAnswer : ℕ → Progress → Answer
+endAnswer pairs (On y) = record { code = 0; file = 0; a = pairs; b = y .answers; c = y .stutters; d = y .matches }
+endAnswer pairs (Stop answer) = answer

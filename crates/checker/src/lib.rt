@@ -25,13 +25,13 @@ ghost use mathlib.Core.Path.{_≡_};
 ghost use mathlib.Core.List.{_++_};
 ghost use Prim.Native.Nat.{ℕ, _+_, _*_, _^_, _≤_, _<_};
 ghost use lib.ListN.{length, getD, drop};
-ghost use Rattle.tables.specs.Table.{fromOf, toOf};
+ghost use Rattle.tables.specs.Table.{statesOf};
 ghost use Rattle.words.specs.Bits.{hasBit};
 ghost use Rattle.certificates.specs.CertificateModel.{relatedIn};
 ghost use Rattle.certificates.specs.declared.Sizes.{Sizes};
-ghost use Rattle.checker.specs.Progress.{none, addTo, total, progress};
-ghost use Rattle.checker.specs.Plan.{stepsIn, relativesOf, StatesPlanned, StepsPlanned, StepsFit, Links, Small, Within, leftRun, rightRun, failedAt, rankAt, outcomeAt, stepChecks, checksAt, rowChecks, allChecks};
-ghost use Rattle.checker.specs.Judge.{judgeAnswer};
+ghost use Rattle.checker.specs.Progress.{none, addTo, total, progress, endAnswer};
+ghost use Rattle.checker.specs.Plan.{stepsIn, relativesOf, StatesPlanned, StepsPlanned, StepsFit, PlanOf, Links, Small, Within, leftRun, rightRun, failedAt, rankAt, outcomeAt, stepChecks, checksAt, rowChecks, allChecks};
+ghost use Rattle.checker.specs.Judge.{blank, tableThen, certificateThen, pairsIn, AllRead, judgedBytes, judgeAnswer};
 
 // How many obligations each clause has met.
 struct Tally {
@@ -397,4 +397,127 @@ fn plan_steps(states: [u64; 512], steps: &[u8]) -> [u64; 512]
         plan[256 + j] = first;
     }
     plan
+}
+
+// The plan of a side: 0 left, 1 right.
+fn plan_side(labels: &[u8], rows: &[u8], n1: usize, side: usize, steps: &[u8]) -> [u64; 512]
+    requires { ⌜ (n1 ≤ 64) × StepsFit (now steps) ⌝ }
+    ensures { λ r. ⌜ PlanOf (now (labels .entry)) (now (rows .entry)) n1 side (now (steps .entry)) r ⌝ }
+{
+    let states = plan_states(labels, rows, n1, side);
+    plan_steps(states, steps)
+}
+
+// The related pairs: the ones of the first n1 rows.
+fn count_pairs(rows: &[u8], n1: usize) -> usize
+    requires { ⌜ n1 ≤ 64 ⌝ }
+    ensures { λ r. ⌜ r ≡ pairsIn (now (rows .entry)) n1 ⌝ }
+{
+    let mut pairs: usize = 0;
+    let mut s: usize = 0;
+    while s < n1 {
+        let word = row(rows, s);
+        pairs += word.count();
+        s += 1;
+    }
+    pairs
+}
+
+// The answer at the end of all checks.
+fn end_answer(end: Progress, pairs: usize) -> Answer
+    ensures { λ r. ⌜ r ≡ endAnswer pairs end ⌝ }
+{
+    match end {
+        Progress::On(met) => Answer {
+            code: 0,
+            file: 0,
+            a: pairs,
+            b: met.answers,
+            c: met.stutters,
+            d: met.matches,
+        },
+        Progress::Stop(answer) => answer,
+    }
+}
+
+// The judge's answer where all three files are read: s and t are the starts.
+fn judge_read(left: &[u8], right: &[u8], certificate: &[u8], s: usize, t: usize) -> Answer
+    requires { ⌜ AllRead (now left) (now right) (now certificate) × (s < statesOf (now left)) ⌝ }
+    ensures { λ r. ⌜ r ≡ judgedBytes (now (left .entry)) (now (right .entry)) (now (certificate .entry)) s t ⌝ }
+{
+    let sizes = Sizes::of(left, right);
+    let rows = rows(certificate, sizes);
+    let word = row(rows, s);
+    if !word.has(t) {
+        return Answer {
+            code: 16,
+            file: 2,
+            a: s,
+            b: t,
+            c: 0,
+            d: 0,
+        };
+    }
+    let n1 = sizes.n1 as usize;
+    let left_steps = steps(left);
+    let right_steps = steps(right);
+    let ours = plan_side(labels(left), rows, n1, 0, left_steps);
+    let theirs = plan_side(labels(right), rows, n1, 1, right_steps);
+    let end = check_all(left_steps, right_steps, &ours, &theirs, certificate, sizes);
+    end_answer(end, count_pairs(rows, n1))
+}
+
+// The answer of a table's read that is no header; for a header it is blank.
+fn table_answer(read: TableRead, file: usize) -> Answer
+    ensures { λ r. ⌜ r ≡ tableThen read file blank ⌝ }
+{
+    let TableRead::Refused(refusal) = read else {
+        return Answer {
+            code: 0,
+            file: 0,
+            a: 0,
+            b: 0,
+            c: 0,
+            d: 0,
+        };
+    };
+    refusal.answer(file)
+}
+
+// The answer of a certificate's read that is refused; for any other it is blank.
+fn certificate_answer(read: CertificateRead) -> Answer
+    ensures { λ r. ⌜ r ≡ certificateThen read blank ⌝ }
+{
+    let CertificateRead::Refused(refusal) = read else {
+        return Answer {
+            code: 0,
+            file: 0,
+            a: 0,
+            b: 0,
+            c: 0,
+            d: 0,
+        };
+    };
+    refusal.answer(2)
+}
+
+// The judge: for any three byte strings, the six numbers of its answer.
+pub fn judge(left: &[u8], right: &[u8], certificate: &[u8]) -> Answer
+    ensures { λ r. ⌜ r ≡ judgeAnswer (now (left .entry)) (now (right .entry)) (now (certificate .entry)) ⌝ }
+{
+    let first = read_table(left);
+    let TableRead::Good(ours) = first else {
+        return table_answer(first, 0);
+    };
+    let second = read_table(right);
+    let TableRead::Good(theirs) = second else {
+        return table_answer(second, 1);
+    };
+    let third = read_certificate(certificate, Sizes::of(left, right));
+    let CertificateRead::Good(_) = third else {
+        return certificate_answer(third);
+    };
+    let s = ours.initial;
+    let t = theirs.initial;
+    judge_read(left, right, certificate, s.first(), t.first())
 }

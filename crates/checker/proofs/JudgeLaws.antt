@@ -1,0 +1,36 @@
+-- The judge's answer, read by read: the first file that is refused, or the verdict on all three. Assumes nothing.
+use Prim.Native.Nat.{ℕ}
+use mathlib.Core.Path.{_≡_, sym, ap, _∙_}
+use mathlib.Core.List.{List}
+use Rattle.tables.specs.Table.{readTable, startOf}
+use Rattle.tables.specs.declared.Head.{Head}
+use Rattle.tables.specs.declared.TableRefusal.{TableRefusal}
+use Rattle.tables.specs.declared.TableRead.{TableRead}
+use Rattle.tables.specs.declared.TableRead.the-variants as table
+use Rattle.certificates.specs.Layout.{sizesOf}
+use Rattle.certificates.specs.Certificate.{readCertificate}
+use Rattle.certificates.specs.declared.Sizes.{Sizes}
+use Rattle.certificates.specs.declared.CertificateRefusal.{CertificateRefusal}
+use Rattle.certificates.specs.declared.CertificateRead.{CertificateRead}
+use Rattle.certificates.specs.declared.CertificateRead.the-variants as certificate
+use Rattle.checker.specs.Judge.{blank, tableThen, certificateThen, judgedBytes, judgeAnswer}
+
+module _ (left right c : List ℕ) where
+  pub left-refused : {x : TableRead} {r : TableRefusal} → x ≡ readTable left → x ≡ table.Refused r → tableThen x 0 blank ≡ judgeAnswer left right c
+  unfolding judgeAnswer
+  left-refused e q = rw (← e, q)
+
+  module _ {h : Head} (gl : readTable left ≡ table.Good h) where
+    pub right-refused : {x : TableRead} {r : TableRefusal} → x ≡ readTable right → x ≡ table.Refused r → tableThen x 1 blank ≡ judgeAnswer left right c
+    unfolding judgeAnswer
+    right-refused e q = rw (gl, ← e, q)
+
+    module _ {k : Head} (gr : readTable right ≡ table.Good k) where
+      pub certificate-refused : {x : CertificateRead} {r : CertificateRefusal} → x ≡ readCertificate (sizesOf left right) c → x ≡ certificate.Refused r
+          → certificateThen x blank ≡ judgeAnswer left right c
+      unfolding judgeAnswer
+      certificate-refused e q = rw (gl, gr, ← e, q)
+
+      pub all-read : {z : Sizes} → readCertificate (sizesOf left right) c ≡ certificate.Good z → judgeAnswer left right c ≡ judgedBytes left right c (startOf left) (startOf right)
+      unfolding judgeAnswer
+      all-read gc = rw (gl, gr, gc)

@@ -1,0 +1,161 @@
+-- The checks that the judge reads off its plans are the theory's checks in judging order, and its progress over them is their verdict and counts.
+-- A side is a view: the left side's checks and the right side's are one law, cited for a view and for its flip. Assumes nothing.
+use Prim.Native.Nat.{ℕ, _+_, _*_, _^_, _≤_, _<_}
+use mathlib.Core.Path.{_≡_, refl, sym, ap, ap₂, _∙_, subst}
+use mathlib.Core.Bool.{Bool, true, false, cond, _&&_, and-true}
+use mathlib.Core.List.{List, [], _∷_, _++_, map}
+use native.Mathlib.Nat.{add-assoc}
+use native.Mathlib.Omega.{arith}
+use lib.Dec.{T, eqb, eqb→eq}
+use lib.ListN.{length, getD, drop}
+use lib.Seq.{getD-drop}
+use borrow.Author.Tests.{eq-eqb, eqb-true}
+use Rattle.lists.specs.Below.{anyBelow}
+use Rattle.lists.specs.Numbers.{byteAt}
+use Rattle.lists.proofs.BelowLaws.{any-cong}
+use Rattle.lists.proofs.BoolLaws.{T-dec}
+use Rattle.words.specs.Bits.{hasBit}
+use Rattle.bisimulation.specs.Systems.{System, View, Ranks, flip, swap}
+use Rattle.tables.specs.Table.{fromOf, toOf}
+use Rattle.tables.specs.declared.Answer.{Answer}
+use Rattle.obligations.specs.Obligation.{obligationAt, Faces, Ranked}
+use Rattle.obligations.specs.Judging.{joinBelow, stepsFrom, Check, leftStep, rightStep, pairChecks, checks, Result, passes, metBy, stops, stepResult, result, Verdict, accepted, refusedWith, andThen, verdict, isBy, countBy}
+use Rattle.obligations.specs.declared.Clause.{Clause}
+use Rattle.obligations.specs.declared.Clause.the-variants.{Answer as Answered, Stutter as Stuttered, Match as Matched}
+use Rattle.obligations.specs.declared.Outcome.{Outcome}
+use Rattle.obligations.specs.declared.Outcome.the-variants.{Met, Failed}
+use Rattle.obligations.proofs.ObligationLaws.{obligation-is}
+use Rattle.checker.specs.declared.Tally.{Tally}
+use Rattle.checker.specs.declared.Progress.{Progress}
+use Rattle.checker.specs.declared.Progress.the-variants.{On, Stop}
+use Rattle.checker.specs.declared.Run.{Run}
+use Rattle.checker.specs.declared.Place.{Place}
+use Rattle.checker.specs.Progress.{none, addTo, after, progress, endAnswer}
+use Rattle.checker.specs.Judge.{verdictAnswer}
+use Rattle.checker.specs.Plan.{stepsIn, rankAt, facing, outcomeAt, stepChecks, leftState, rightState}
+use Rattle.checker.proofs.JoinLaws.{join-cong, map-join, map-when}
+
+-- ---- one side of a pair
+
+-- The words and ranks that a sweep looks at are those of the view, at the place.
+pub record Sees (v : View) (r : Ranks) (steps plan : List ℕ) (ahead : ℕ) (certificate : List ℕ) (run : Run) (place : Place) : Type 0 where
+  pub steps-are : stepsIn steps ≡ v .own .steps
+  pub from-are : (j : ℕ) → fromOf steps j ≡ v .own .from j
+  pub to-are : (j : ℕ) → toOf steps j ≡ v .own .to j
+  pub to< : (j : ℕ) → j < v .own .steps → v .own .to j < 64
+  pub own< : place .own < 64
+  pub related-are : (s : ℕ) → s < 64 → (t : ℕ) → hasBit (getD plan s 0) t ≡ v .related s t
+  pub ahead-are : (u : ℕ) → hasBit ahead u ≡ anyBelow (v .other .steps) (λ k. eqb (v .other .from k) (place .other) && eqb (v .other .to k) u)
+  pub ahead< : ahead < 2 ^ 64
+  pub stutter-are : (s : ℕ) → rankAt certificate run place s ≡ r .stutter s (place .other)
+  pub match-are : (j t : ℕ) → byteAt certificate (run .matches + (j * run .states + t)) ≡ r .match j t
+  -- every step is silent and answers every other
+  pub silent : (j : ℕ) → v .own .silent j ≡ true
+  pub silent′ : (k : ℕ) → v .other .silent k ≡ true
+  pub answers : (j k : ℕ) → v .answers j k ≡ true
+
+module _ (v : View) (r : Ranks) (steps plan : List ℕ) (ahead : ℕ) (certificate : List ℕ) (run : Run) (place : Place) (see : Sees v r steps plan ahead certificate run place) where
+  plain-any : (P : ℕ → Bool) (u : ℕ) → ((k : ℕ) → P k ≡ true)
+      → anyBelow (v .other .steps) (λ k. eqb (v .other .from k) (place .other) && eqb (v .other .to k) u) ≡ anyBelow (v .other .steps) (λ k. eqb (v .other .from k) (place .other) && P k && eqb (v .other .to k) u)
+  plain-any P u h = any-cong _ _ _ (λ k l. ap (λ (b : Bool). b && eqb (v .other .to k) u) (sym (ap (λ (b : Bool). eqb (v .other .from k) (place .other) && b) (h k) ∙ and-true (eqb (v .other .from k) (place .other)))))
+
+  faces : (j : ℕ) → j < v .own .steps → v .own .from j ≡ place .own → Faces v j (place .other) (facing steps plan ahead certificate run place j)
+  faces j l e =
+      record {
+        related-from = λ x. see .related-are (place .own) (see .own<) x ∙ ap (λ (s : ℕ). v .related s x) (sym e);
+        related-to = λ x. ap (λ (u : ℕ). hasBit (getD plan u 0) x) (see .to-are j) ∙ see .related-are (v .own .to j) (see .to< j l) x;
+        answering = λ x. see .ahead-are x ∙ plain-any (v .answers j) x (see .answers j);
+        silent = λ x. see .ahead-are x ∙ plain-any (v .other .silent) x (see .silent′);
+        quiet = sym (see .silent j);
+        answering< = see .ahead<;
+        silent< = see .ahead<;
+      }
+
+  ranked : (j : ℕ) → v .own .from j ≡ place .own
+      → Ranked v r j (place .other) (rankAt certificate run place (place .own)) (rankAt certificate run place (toOf steps j)) (drop (run .matches + j * run .states) certificate)
+  ranked j e =
+      record {
+        before-is = see .stutter-are (place .own) ∙ ap (λ (s : ℕ). r .stutter s (place .other)) (sym e);
+        after-is = see .stutter-are (toOf steps j) ∙ ap (λ (s : ℕ). r .stutter s (place .other)) (see .to-are j);
+        ranks-are = λ x. getD-drop (run .matches + j * run .states) certificate x 0 ∙ ap (byteAt certificate) (add-assoc (run .matches) (j * run .states) x) ∙ see .match-are j x;
+      }
+
+  outcome-is : (j : ℕ) → j < v .own .steps → v .own .from j ≡ place .own → outcomeAt steps plan ahead certificate run place j ≡ obligationAt v r j (place .other)
+  unfolding outcomeAt
+  outcome-is j l e = obligation-is v r j (place .other) _ (faces j l e) _ _ _ (ranked j e)
+
+  -- the results of the steps from the own state, in table order
+  pub side-checks : stepChecks steps plan ahead certificate run place
+      ≡ joinBelow (v .own .steps) (λ j. cond (eqb (v .own .from j) (place .own)) (stepResult (place .side) (leftState place) (rightState place) j (obligationAt v r j (place .other)) ∷ []) [])
+  unfolding stepChecks
+  side-checks =
+      ap (λ (n : ℕ). joinBelow n at) (see .steps-are)
+      ∙ join-cong (v .own .steps) at there (λ j l. ap (λ (s : ℕ). cond (eqb s (place .own)) (one j (outcomeAt steps plan ahead certificate run place j)) []) (see .from-are j) ∙ when (eqb (v .own .from j) (place .own)) (λ h. ap (one j) (outcome-is j l (eqb→eq _ _ h))))
+    where
+      one : ℕ → Outcome → List Result
+      one j o = stepResult (place .side) (leftState place) (rightState place) j o ∷ []
+
+      at : ℕ → List Result
+      at j = cond (eqb (fromOf steps j) (place .own)) (one j (outcomeAt steps plan ahead certificate run place j)) []
+
+      there : ℕ → List Result
+      there j = cond (eqb (v .own .from j) (place .own)) (one j (obligationAt v r j (place .other))) []
+
+      when : (b : Bool) {x y : List Result} → (T b → x ≡ y) → cond b x [] ≡ cond b y []
+      when true h = h tt
+      when false h = refl
+
+-- the theory's checks of steps, as results
+pub map-steps : (v : View) (r : Ranks) (S : System) (s : ℕ) (check : ℕ → Check)
+    → map (result v r) (map check (stepsFrom S s)) ≡ joinBelow (S .steps) (λ j. cond (eqb (S .from j) s) (result v r (check j) ∷ []) [])
+unfolding stepsFrom
+map-steps v r S s check =
+    ap (map (result v r)) (map-join check (S .steps) _) ∙ map-join (result v r) (S .steps) _
+    ∙ join-cong (S .steps) _ _ (λ j l. ap (map (result v r)) (map-when check (eqb (S .from j) s) (j ∷ [])) ∙ map-when (result v r) (eqb (S .from j) s) (check j ∷ []))
+
+-- ---- progress over the theory's checks
+
+-- A tally with so many more.
+abbrev plus : Tally → ℕ → ℕ → ℕ → Tally
+plus y a b c = record { answers = y .answers + a; stutters = y .stutters + b; matches = y .matches + c }
+
+same-tally : {a b c a′ b′ c′ : ℕ} → a ≡ a′ → b ≡ b′ → c ≡ c′
+    → _≡_ {A = Progress} (On (record { answers = a; stutters = b; matches = c })) (On (record { answers = a′; stutters = b′; matches = c′ }))
+same-tally p q s = rw (p, q, s)
+
+module _ (v : View) (r : Ranks) where
+  -- where nothing stops the judge, it has counted the obligations by clause
+  pub progress-accepted : (cs : List Check) (y : Tally) → verdict v r cs ≡ accepted
+      → progress (map (result v r) cs) y ≡ On (plus y (countBy v r Answered cs) (countBy v r Stuttered cs) (countBy v r Matched cs))
+  unfolding progress verdict countBy
+  progress-accepted [] y e = same-tally (omega arith) (omega arith) (omega arith)
+  progress-accepted (c ∷ cs) y e = go (result v r c) e (λ q z. progress-accepted cs z q)
+    where
+      go : (x : Result) → andThen x (verdict v r cs) ≡ accepted
+          → (verdict v r cs ≡ accepted → (z : Tally) → progress (map (result v r) cs) z ≡ On (plus z (countBy v r Answered cs) (countBy v r Stuttered cs) (countBy v r Matched cs)))
+          → after x y (progress (map (result v r) cs)) ≡ On (plus y (isBy Answered x + countBy v r Answered cs) (isBy Stuttered x + countBy v r Stuttered cs) (isBy Matched x + countBy v r Matched cs))
+      go passes e h = h e y ∙ same-tally (omega arith) (omega arith) (omega arith)
+      go (metBy Answered) e h = h e (addTo y Answered) ∙ same-tally (omega arith) (omega arith) (omega arith)
+      go (metBy Stuttered) e h = h e (addTo y Stuttered) ∙ same-tally (omega arith) (omega arith) (omega arith)
+      go (metBy Matched) e h = h e (addTo y Matched) ∙ same-tally (omega arith) (omega arith) (omega arith)
+      go (stops answer) e h = absurd (let z : _≡_ {A = ℕ} 0 1 = cc e in omega arith)
+
+  -- where a check stops it, it stops with that check's answer
+  pub progress-refused : (cs : List Check) (y : Tally) (a : Answer) → verdict v r cs ≡ refusedWith a → progress (map (result v r) cs) y ≡ Stop a
+  unfolding progress verdict
+  progress-refused [] y a e = absurd (let z : _≡_ {A = ℕ} 0 1 = cc e in omega arith)
+  progress-refused (c ∷ cs) y a e = go (result v r c) e (λ q z. progress-refused cs z a q)
+    where
+      go : (x : Result) → andThen x (verdict v r cs) ≡ refusedWith a → (verdict v r cs ≡ refusedWith a → (z : Tally) → progress (map (result v r) cs) z ≡ Stop a)
+          → after x y (progress (map (result v r) cs)) ≡ Stop a
+      go passes e h = h e y
+      go (metBy clause) e h = h e (addTo y clause)
+      go (stops answer) e h = ap Stop (cc e)
+
+  -- the answer at the end of all checks is the verdict's
+  pub end-verdict : (pairs : ℕ) → endAnswer pairs (progress (map (result v r) (checks v)) none) ≡ verdictAnswer v r pairs (verdict v r (checks v))
+  end-verdict pairs = go (verdict v r (checks v)) refl
+    where
+      go : (w : Verdict) → verdict v r (checks v) ≡ w → endAnswer pairs (progress (map (result v r) (checks v)) none) ≡ verdictAnswer v r pairs w
+      go accepted e = ap (endAnswer pairs) (progress-accepted (checks v) none e ∙ same-tally (omega arith) (omega arith) (omega arith))
+      go (refusedWith a) e = ap (endAnswer pairs) (progress-refused (checks v) none a e)
