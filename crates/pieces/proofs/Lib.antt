@@ -1,0 +1,2 @@
+-- Laws of the definitions of `specs/`.
+pub mod PieceLaws
