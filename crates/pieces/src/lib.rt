@@ -8,7 +8,7 @@ ghost use Rattle.pieces.specs.Pieces.{lengthAt, pieceStart, pieceEnd, pi
 
 // Where the length of piece i begins.
 fn length_at(input: &[u8], i: usize) -> usize
-    requires { ⌜ i ≤ 256 ⌝ }
+    requires { ⌜ i ≤ 1000 ⌝ }
     ensures value { λ r. ⌜ r ≡ lengthAt (now (input .entry)) i ⌝ }
     ensures small { λ r. ⌜ r ≤ i * 65537 ⌝ }
 {

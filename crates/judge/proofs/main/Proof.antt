@@ -1,0 +1,41 @@
+-- `judge::main` is safe: as many bytes are handed on as were read. Assumes nothing.
+use mathlib.Core.Path.{sym}
+use lib.Seq.{length-take-le}
+use borrow.Author.Needs.{needs}
+use Rattle.judge.proofs.main.Statement.{statement}
+use Rattle.judge.proofs.main.Tie as tie
+
+slice-aggregate-read-input : tie.Need-slice-aggregate-read-input
+slice-aggregate-read-input c = search needs
+
+read-input-requires : tie.Need-read-input-requires
+read-input-requires c κs = search needs
+
+array-share-prefix-input : tie.Need-array-share-prefix-input
+array-share-prefix-input c = search needs
+
+slice-aggregate-answer-of : tie.Need-slice-aggregate-answer-of
+slice-aggregate-answer-of c =
+    let read = c .before .before .read-input in
+    sym (length-take-le (read .result) (read .last .0) (read .ensures))
+
+answer-of-requires : tie.Need-answer-of-requires
+answer-of-requires c κs = search needs
+
+print-answer-requires : tie.Need-print-answer-requires
+print-answer-requires c κs = search needs
+
+returns : tie.Need-returns
+returns c = search needs
+
+pub main-spec : {M : Type 1} → statement M
+main-spec =
+    tie.close
+    (tie.spec
+    slice-aggregate-read-input
+    read-input-requires
+    array-share-prefix-input
+    slice-aggregate-answer-of
+    answer-of-requires
+    print-answer-requires
+    returns)

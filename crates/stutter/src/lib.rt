@@ -1,0 +1,37 @@
+// The C interface, as include/stutter.h has it: a slice is a pointer and a length.
+use tables::Answer;
+ghost use mathlib.Core.Path.{_≡_};
+ghost use Rattle.checker.specs.Judge.{judgeAnswer};
+ghost use Rattle.stutter.specs.Interface.{hasRoom, answered};
+
+// Puts the six numbers into the first six places, and says whether there are six. Fewer places stay as they are.
+fn put_numbers(numbers: Answer, places: &mut [u64]) -> bool
+    ensures room { λ r. ⌜ r ≡ hasRoom (now (places .entry)) ⌝ }
+    ensures put { λ r. ⌜ now (places .exit) ≡ answered numbers (now (places .entry)) ⌝ }
+{
+    if places.len() < 6 {
+        return false;
+    }
+    places[0] = numbers.code as u64;
+    places[1] = numbers.file as u64;
+    places[2] = numbers.a as u64;
+    places[3] = numbers.b as u64;
+    places[4] = numbers.c as u64;
+    places[5] = numbers.d as u64;
+    true
+}
+
+// Judges the certificate. The six numbers go to the first six places of `answer`; where it has fewer, nothing is written and false is returned.
+#[no_mangle]
+pub extern "C" fn stutter_judge(
+    left: &[u8],
+    right: &[u8],
+    certificate: &[u8],
+    answer: &mut [u64],
+) -> bool
+    ensures room { λ r. ⌜ r ≡ hasRoom (now (answer .entry)) ⌝ }
+    ensures put { λ r. ⌜ now (answer .exit) ≡ answered (judgeAnswer (now (left .entry)) (now (right .entry)) (now (certificate .entry))) (now (answer .entry)) ⌝ }
+{
+    let numbers = checker::judge(left, right, certificate);
+    put_numbers(numbers, answer)
+}

@@ -1,0 +1,47 @@
+/* The judge of stuttering certificates, for C. Link with libstutter.a, which `rt staticlib stutter` writes to target/staticlib. */
+#ifndef STUTTER_H
+#define STUTTER_H
+
+#include <stdbool.h>
+#include <stddef.h>
+#include <stdint.h>
+
+#ifdef __cplusplus
+extern "C" {
+#endif
+
+/* The places that an answer takes: code, file, a, b, c, d. */
+#define STUTTER_ANSWER_LENGTH 6
+
+/* Judges a certificate for two state tables. Each file is a pointer and a number of bytes; any bytes are taken, and a pointer with no bytes
+ * may not be null.
+ *
+ * The six numbers go to the first six places of `answer`, later places stay as they are, and the function returns true. Where `answer_length`
+ * is below six nothing at all is written, and it returns false. `answer` overlaps no file.
+ *
+ *   answer[0]  code: 0 where the certificate is accepted, else the number of the cause for which it is refused
+ *   answer[1]  file: 0 left table, 1 right table, 2 certificate
+ *   answer[2]  a ..
+ *   answer[5]  .. d: as the code says; a value that it does not name is 0
+ *
+ *   code     a, b, c, d
+ *   0        a related pairs, b, c, d obligations met by the clauses 2a, 2b, 2c
+ *   1 to 7   none: table under 9 bytes, its first three bytes, its version, its states, its start, its steps, its length
+ *   8, 9     a the first step that ends outside the states, or that stands twice
+ *   10 to 14 none: certificate under 11 bytes, its first three bytes, its version, a size unlike the tables', its length
+ *   15       a the first row with a state that the right table does not have
+ *   16       a left start, b right start: they are not related
+ *   17       a left state, b right state: they are related and their marks differ
+ *   18, 19   a side (0 left, 1 right), b left state, c right state, d step: no clause holds of this step. 18 where no ranks could help: its end
+ *            and the other state are not related, and no step of the other state stays related; 19 otherwise
+ */
+bool stutter_judge(const uint8_t *left, size_t left_length,
+                   const uint8_t *right, size_t right_length,
+                   const uint8_t *certificate, size_t certificate_length,
+                   uint64_t *answer, size_t answer_length);
+
+#ifdef __cplusplus
+}
+#endif
+
+#endif
