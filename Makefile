@@ -1,20 +1,28 @@
-# make run     says that the judge's program is not built yet; then: run it on the example P, Q, K of the format's document
-# make test    the whole gate: layout, the Rust oracle's own tests, proofs, must-fail edits, programs; its last line is rt's 'N passed, 0 failed'
-# make bench   says that there is nothing to measure yet; then: speed, as ratios in one run; no part of the gate
+# make run     prove and build the judge's program, and run it on the example P, Q, K of the format's document
+# make test    the whole gate: layout, the library and the program for the Rust tests, these tests, then from nothing proofs, must-fail edits
+#              and programs; its last line is rt's 'N passed, 0 failed'
+# make bench   speed of the proved judge beside two Rust versions, as ratios in one run; no part of the gate
 # make fmt     lay out every file under crates/
+
+CARGO_WORDS = --release --offline --quiet --manifest-path rust/Cargo.toml
 
 .PHONY: run test bench fmt
 
 run:
-	@echo "make run: nothing to run yet; the judge's program is not built."
+	rt check judge
+	@echo "P, Q, K are judged:"
+	@sh examples/input examples/P.hex examples/Q.hex examples/K.hex | target/bin/judge
 
 test:
 	rt fmt --check
-	cargo test --release --offline --quiet --manifest-path rust/Cargo.toml
+	rt staticlib stutter
+	rt check judge
+	cargo test $(CARGO_WORDS)
 	rt ci
 
 bench:
-	@echo "make bench: nothing to measure yet; the judge is not built."
+	rt staticlib stutter
+	cargo run $(CARGO_WORDS) --package stutter --example bench
 
 fmt:
 	rt fmt

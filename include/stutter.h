@@ -13,8 +13,8 @@ extern "C" {
 /* The places that an answer takes: code, file, a, b, c, d. */
 #define STUTTER_ANSWER_LENGTH 6
 
-/* Judges a certificate for two state tables. Each file is a pointer and a number of bytes; any bytes are taken, and a pointer with no bytes
- * may not be null.
+/* Judges a certificate for two state tables. Each file is a pointer to its bytes and their number. Any bytes are taken, and no file is too short
+ * or too long. No pointer is null, not even that of an empty file.
  *
  * The six numbers go to the first six places of `answer`, later places stay as they are, and the function returns true. Where `answer_length`
  * is below six nothing at all is written, and it returns false. `answer` overlaps no file.
