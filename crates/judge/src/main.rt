@@ -2,8 +2,8 @@
 use tables::Answer;
 ghost use mathlib.Core.Path.{_≡_};
 ghost use Prim.Native.Nat.{_+_, _≤_};
-ghost use lib.ListN.{length};
-ghost use Rattle.pieces.specs.Pieces.{pieceOf};
+ghost use lib.ListN.{length, take};
+ghost use Rattle.pieces.specs.Pieces.{pieceOf, missingOf, Reading};
 ghost use Rattle.checker.specs.Judge.{judgeAnswer};
 
 // The most bytes that three pieces and their lengths have: 3 times 2 + 65,535.
@@ -12,7 +12,9 @@ const MOST: usize = 196611;
 // Reads once, after the first n bytes of the input, at most as many bytes as are missing, and answers how many came.
 fn read_more(input: &mut [u8], n: usize) -> usize
     requires { ⌜ n ≤ length (now input) ⌝ }
-    ensures { λ r. ⌜ n + r ≤ length (now (input .exit)) ⌝ }
+    ensures fits { λ r. ⌜ n + r ≤ length (now (input .exit)) ⌝ }
+    ensures asked { λ r. ⌜ r ≤ missingOf (take n (now (input .entry))) ⌝ }
+    ensures kept { λ r. ⌜ take n (now (input .exit)) ≡ take n (now (input .entry)) ⌝ }
 {
     let missing = pieces::missing(&input[..n]);
     if missing == 0 {
@@ -27,9 +29,10 @@ fn read_more(input: &mut [u8], n: usize) -> usize
     io::count(got, part)
 }
 
-// Reads until the three pieces are there or the input ends, and answers how many bytes came.
+// Reads until the three pieces are there or the input ends, never past the third piece, and answers how many bytes came.
 fn read_input(input: &mut [u8]) -> usize
-    ensures { λ r. ⌜ r ≤ length (now (input .exit)) ⌝ }
+    ensures fits { λ r. ⌜ r ≤ length (now (input .exit)) ⌝ }
+    ensures read { λ r. ⌜ Reading (take r (now (input .exit))) ⌝ }
 {
     let mut n: usize = 0;
     loop {

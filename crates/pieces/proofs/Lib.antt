@@ -1,2 +1,3 @@
--- Laws of the definitions of `specs/`.
+-- Laws of the definitions of `specs/`, for the proofs of this crate and of those above it.
 pub mod PieceLaws
+pub mod PieceExamples

@@ -2,14 +2,14 @@
 -- less than it will be, so the bytes wanted so far never pass the end of the third piece; and where they are all there, every length is
 -- whole, so nothing that follows changes them. Assumes nothing.
 use Prim.Native.Nat.{ℕ, zero, suc, _+_, _*_, _-_, _≤_, _<_, zero-le}
-use mathlib.Core.Path.{_≡_, refl, sym, ap, ap₂, _∙_}
+use mathlib.Core.Path.{_≡_, refl, ap, ap₂, _∙_}
 use mathlib.Core.List.{List, [], _++_, append-assoc}
 use native.Mathlib.Decide.{decLt}
 use native.Mathlib.Nat.{le-refl, zero-add, add-assoc}
 use native.Mathlib.Numerals.{add-one}
 use native.Mathlib.Omega.{arith}
-use lib.ListN.{length, take, drop, getD, length-append, length-drop, List·getD-append}
-use lib.Seq.{take-append-le, drop-append-le, take-at, drop-at, getD-append-add, drop-append-add}
+use lib.ListN.{length, take, drop, length-append, length-drop, List·getD-append}
+use lib.Seq.{length-take-le, take-add, take-append-le, drop-append-le, take-at, drop-at, getD-append-add, drop-append-add}
 use Rattle.lists.specs.Lists.{part}
 use Rattle.lists.specs.Numbers.{byteAt, bigEndian, bigBytes}
 use Rattle.lists.proofs.FillLaws.{getD-past, part-past, part-rest}
@@ -123,6 +123,12 @@ reading-within {s} r t = let b = wanted-grows s t in let a = reading-wanted r in
 pub asked-within : {s : List ℕ} → Reading s → (t : List ℕ) → length s + missingOf s ≤ wanted (s ++ t)
 unfolding missingOf
 asked-within {s} r t = let b = wanted-grows s t in let a = reading-wanted r in omega arith
+
+-- one turn of reading into a list: where the first n elements stay and r more are read, at most as many as are missing, n + r are read
+pub reading-more : (l k : List ℕ) (n r : ℕ) → Reading (take n l) → take n k ≡ take n l → r ≤ missingOf (take n l) → n + r ≤ length k → Reading (take (n + r) k)
+reading-more l k n r w kept asked fits =
+    let e : length (take r (drop n k)) ≡ r = length-take-le r (drop n k) (rw length-drop (omega arith)) in
+    rw (take-add n r k, kept) (more (take n l) (take r (drop n k)) w (omega arith))
 
 -- where nothing is missing any more, what was read is what the three pieces ask for, no more and no less, however the input goes on
 pub reading-done : {s : List ℕ} → Reading s → missingOf s ≡ 0 → (t : List ℕ) → wanted (s ++ t) ≡ length s

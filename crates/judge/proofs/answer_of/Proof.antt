@@ -1,5 +1,4 @@
 -- `judge::answer_of` meets its contract: the three pieces are those that the definition names. Assumes nothing.
-use mathlib.Core.Path.{_≡_}
 use borrow.Author.Needs.{needs}
 use Rattle.judge.proofs.answer_of.Statement.{statement}
 use Rattle.judge.proofs.answer_of.Tie as tie

@@ -17,7 +17,7 @@ array-share-prefix-input c = search needs
 slice-aggregate-answer-of : tie.Need-slice-aggregate-answer-of
 slice-aggregate-answer-of c =
     let read = c .before .before .read-input in
-    sym (length-take-le (read .result) (read .last .0) (read .ensures))
+    sym (length-take-le (read .result) (read .last .0) (read .ensures .0))
 
 answer-of-requires : tie.Need-answer-of-requires
 answer-of-requires c κs = search needs

@@ -1,7 +1,11 @@
--- `judge::read_more` meets its contract: what is read goes to places that the input has. Assumes nothing.
-use lib.ListN.{length}
-use lib.Seq.{length-take-le}
+-- `judge::read_more` meets its contract: what is read goes to places that the input has, after those that are kept, and there are as many of them
+-- as bytes are missing. Assumes nothing.
+use Prim.Native.Nat.{_+_, _-_}
 use mathlib.Core.Path.{sym}
+use native.Mathlib.Omega.{arith}
+use lib.Seq.{length-take-le}
+use denote.Ref.{now}
+use borrow.Rule.Slice.PartMut.{take-put}
 use borrow.Author.Needs.{needs}
 use Rattle.judge.proofs.read_more.Statement.{statement}
 use Rattle.judge.proofs.read_more.Tie as tie
@@ -54,7 +58,12 @@ same-length-3 : tie.Need-same-length-3
 same-length-3 c = search needs
 
 returns-3 : tie.Need-returns-3
-returns-3 c = search needs
+returns-3 c =
+    let start = c .before .before .before .before .before .before .before .before .before .before .before .before .before .before in
+    let a = start .args in
+    let missing = c .before .before .before .before .before .before .before .before .before .before .before .missing in
+    let m = missing .ensures .0 in
+    (search needs, (omega arith, take-put (a .n) (a .n + missing .result - a .n) (now (a .input)) (c .before .before .before .before .before .before .read .last .1 .0) (start .pre)))
 
 pub read-more-spec : {M : Type 1} → statement M
 read-more-spec =

@@ -1,8 +1,5 @@
 -- `pieces::missing` meets its contract: the difference is taken where it is not below 0. Assumes nothing.
-use mathlib.Core.Path.{_≡_}
 use native.Mathlib.Omega.{arith}
-use lib.ListN.{length}
-use denote.Ref.{now}
 use Rattle.pieces.specs.Pieces.{wanted, missingOf}
 use borrow.Author.Needs.{needs}
 use Rattle.pieces.proofs.missing.Statement.{statement}

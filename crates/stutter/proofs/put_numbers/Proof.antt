@@ -1,5 +1,5 @@
 -- `stutter::put_numbers` meets its contract: six stores, one after the other from the first place on, are the six numbers over the front. Assumes nothing.
-use mathlib.Core.Path.{_≡_, sym, _∙_}
+use mathlib.Core.Path.{sym, _∙_}
 use native.Mathlib.Omega.{arith}
 use lib.ListN.{length, length-set}
 use lib.Seq.{sets-eq}

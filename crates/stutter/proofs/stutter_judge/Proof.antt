@@ -1,5 +1,5 @@
 -- `stutter::stutter_judge` meets its contract: it puts the numbers of the judge's answer. Assumes nothing.
-use mathlib.Core.Path.{_≡_, ap, _∙_}
+use mathlib.Core.Path.{ap, _∙_}
 use denote.Ref.{now}
 use Rattle.tables.specs.declared.Answer.{Answer}
 use Rattle.stutter.specs.Interface.{answered}
