@@ -6,14 +6,18 @@ use mathlib.Core.List.{List, [], _∷_, _++_}
 use native.Mathlib.Nat.{mul-le-mul}
 use native.Mathlib.Numerals.{add-one}
 use native.Mathlib.Omega.{arith}
-use lib.Dec.{T, eqb}
+use lib.Bits.{bitAnd}
+use lib.Dec.{T, ltb, eqb}
 use lib.ListN.{length, getD, drop}
-use borrow.Author.Tests.{eq-eqb, ne-eqb}
+use borrow.Author.Tests.{lt-ltb, eq-eqb, ne-eqb}
+use Rattle.words.specs.Bits.{firstBit}
 use Rattle.tables.specs.Table.{fromOf, toOf}
 use Rattle.obligations.specs.declared.Outcome.{Outcome}
 use Rattle.obligations.specs.declared.Outcome.the-variants.{Met, Failed}
 use Rattle.obligations.specs.declared.Clause.{Clause}
+use Rattle.obligations.specs.declared.Clause.the-variants.{Answer}
 use Rattle.obligations.specs.declared.Cause.{Cause}
+use Rattle.obligations.proofs.ObligationLaws.{outcome-answer}
 use Rattle.obligations.specs.Obligation.{obligationOf}
 use Rattle.obligations.specs.Judging.{joinBelow, Result, metBy, stops, stepResult}
 use Rattle.checker.specs.declared.Tally.{Tally}
@@ -38,6 +42,11 @@ module _ (steps plan : List ℕ) (ahead : ℕ) (certificate : List ℕ) (run : R
       ≡ outcomeAt steps plan ahead certificate run place j
   unfolding outcomeAt
   outcome-is j e b a r = rw (b, a, r, e)
+
+  -- 2a holds
+  pub outcome-answered : (j : ℕ) {u x : ℕ} → u ≡ toOf steps j → x ≡ firstBit (bitAnd ahead (getD plan u 0)) → x < 64 → Met Answer ≡ outcomeAt steps plan ahead certificate run place j
+  unfolding outcomeAt obligationOf
+  outcome-answered j e q h = sym (outcome-answer _ _ _ _ (ap (λ (k : ℕ). ltb k 64) (sym (q ∙ ap (λ (k : ℕ). firstBit (bitAnd ahead (getD plan k 0))) e)) ∙ lt-ltb _ 64 h))
 
   -- what stands in the list for step j
   abbrev at : ℕ → List Result
