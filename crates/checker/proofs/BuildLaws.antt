@@ -15,15 +15,14 @@ use borrow.Author.Count.{below-more}
 use borrow.Author.Tests.{lt-ltb, le-ltb, le-leb, eq-eqb, ne-eqb}
 use Rattle.lists.specs.Below.{anyBelow}
 use Rattle.lists.specs.Lists.{tabulate}
-use Rattle.lists.proofs.FillLaws.{length-tabulate, getD-tabulate, getD-past}
+use Rattle.lists.proofs.FillLaws.{length-tabulate, getD-tabulate, getD-past, tabulate-cong, tabulate-set}
 use Rattle.lists.proofs.BoolLaws.{and-l, and-r, and-i, or-e, or-l, or-r, not-T-false, same-T, eq→eqb}
 use Rattle.lists.proofs.BelowLaws.{any-e, any-i, any-cong}
 use Rattle.words.specs.Bits.{hasBit, addBit}
 use Rattle.words.proofs.BitLaws.{has-add-below, has-empty, add-word}
 use Rattle.tables.specs.Table.{labelOf, fromOf, toOf}
 use Rattle.certificates.specs.Layout.{rowOf}
-use Rattle.certificates.specs.CertificateModel.{relatedIn}
-use Rattle.checker.specs.Plan.{stepsIn, NextFrom, relativesOf, StatesPlanned, StepsPlanned, StepsFit, PlanOf, Links}
+use Rattle.checker.specs.Plan.{stepsIn, rowWords, inColumn, NextFrom, relativesOf, StatesPlanned, StepsPlanned, StepsFit, PlanOf, Links}
 
 -- ---- three stores in a list
 
@@ -57,9 +56,9 @@ module _ (l : List ℕ) (a b c x y z : ℕ) (la : a < length l) (lb : b < length
 
 -- ---- the states
 
-module _ (labels rows : List ℕ) (n1 side : ℕ) where
-  pub states-more : {n : ℕ} {l : List ℕ} {word label : ℕ} → StatesPlanned labels rows n1 side n l → n < 64 → ((t : ℕ) → hasBit word t ≡ relativesOf rows n1 side n t)
-      → word < 2 ^ 64 → label ≡ labelOf labels n → label < 65536 → StatesPlanned labels rows n1 side (n + 1) (set (set (set l n word) (128 + n) 256) (192 + n) label)
+module _ (labels rows : List ℕ) (side : ℕ) where
+  pub states-more : {n : ℕ} {l : List ℕ} {word label : ℕ} → StatesPlanned labels rows side n l → n < 64 → ((t : ℕ) → hasBit word t ≡ relativesOf rows side n t)
+      → word < 2 ^ 64 → label ≡ labelOf labels n → label < 65536 → StatesPlanned labels rows side (n + 1) (set (set (set l n word) (128 + n) 256) (192 + n) label)
   states-more {n} {l} {word} {label} w h rel fits e small =
       let r = w .room in
       let la : n < length l = omega arith in
@@ -71,8 +70,8 @@ module _ (labels rows : List ℕ) (n1 side : ℕ) where
       let off = elsewhere l n (128 + n) (192 + n) word 256 label la lb lc ab ac bc in
       record {
         room = stored-length l n (128 + n) (192 + n) word 256 label la lb lc ab ac bc ∙ r;
-        words = stored-words l n (128 + n) (192 + n) word 256 label la lb lc ab ac bc (w .words) fits (omega arith) (omega arith);
-        related-are = below-more (λ (s : ℕ). (t : ℕ) → hasBit (getD (set (set (set l n word) (128 + n) 256) (192 + n) label) s 0) t ≡ relativesOf rows n1 side s t) n
+        fit = stored-words l n (128 + n) (192 + n) word 256 label la lb lc ab ac bc (w .fit) fits (omega arith) (omega arith);
+        related-are = below-more (λ (s : ℕ). (t : ℕ) → hasBit (getD (set (set (set l n word) (128 + n) 256) (192 + n) label) s 0) t ≡ relativesOf rows side s t) n
             (λ s k t. ap (λ (x : ℕ). hasBit x t) (off s (λ q. omega arith) (λ q. omega arith) (λ q. omega arith)) ∙ w .related-are s k t)
             (λ t. ap (λ (x : ℕ). hasBit x t) (at-first l n (128 + n) (192 + n) word 256 label la lb lc ab ac bc) ∙ rel t);
         no-successors = λ s k. off (64 + s) (λ q. omega arith) (λ q. omega arith) (λ q. omega arith) ∙ w .no-successors s k;
@@ -142,7 +141,7 @@ module _ (steps before : List ℕ) (fit : StepsFit steps) where
       let off = elsewhere l (64 + s) (128 + s) (256 + j) word j first la lb lc ab ac bc in
       record {
         room = stored-length l (64 + s) (128 + s) (256 + j) word j first la lb lc ab ac bc ∙ r;
-        words = stored-words l (64 + s) (128 + s) (256 + j) word j first la lb lc ab ac bc (w .words) (rw ew (add-word _ _ (w .words (64 + s)))) (omega arith) (rw ef (w .words (128 + s)));
+        fit = stored-words l (64 + s) (128 + s) (256 + j) word j first la lb lc ab ac bc (w .fit) (rw ew (add-word _ _ (w .fit (64 + s)))) (omega arith) (rw ef (w .fit (128 + s)));
         related-kept = λ x k. off x (λ q. omega arith) (λ q. omega arith) (λ q. omega arith) ∙ w .related-kept x k;
         labels-kept = λ x k. off (192 + x) (λ q. omega arith) (λ q. omega arith) (λ q. omega arith) ∙ w .labels-kept x k;
         successors-are = λ x k u. elim (ℕ-discrete x s) [
@@ -170,16 +169,16 @@ module _ (steps before : List ℕ) (fit : StepsFit steps) where
           ∙ ap₂ _||_ (eqb-swap u (toOf steps j)) (w .successors-are s ls u)
           ∙ sym (any-from (stepsIn steps) (λ k. eqb (fromOf steps k) s && eqb (toOf steps k) u) j h ∙ rw (eq-eqb (fromOf steps j) s (sym e)))
 
--- ---- a column of the rows
+-- ---- a column of the words
 
-module _ (rows : List ℕ) (t : ℕ) where
-  pub column-none : (s : ℕ) → hasBit 0 s ≡ relatedIn rows 0 s t
-  unfolding relatedIn
+module _ (words : List ℕ) (t : ℕ) where
+  pub column-none : (s : ℕ) → hasBit 0 s ≡ inColumn words t 0 s
+  unfolding inColumn
   column-none s = has-empty s ∙ sym (rw (le-ltb s 0 (omega arith)))
 
-  module _ (n : ℕ) (word : ℕ) (w : (s : ℕ) → hasBit word s ≡ relatedIn rows n s t) where
-    pub column-in : n < 64 → hasBit (rowOf rows n) t ≡ true → (s : ℕ) → hasBit (addBit word n) s ≡ relatedIn rows (n + 1) s t
-    unfolding relatedIn
+  module _ (n : ℕ) (word : ℕ) (w : (s : ℕ) → hasBit word s ≡ inColumn words t n s) where
+    pub column-in : n < 64 → hasBit (getD words n 0) t ≡ true → (s : ℕ) → hasBit (addBit word n) s ≡ inColumn words t (n + 1) s
+    unfolding inColumn
     column-in h e s = has-add-below word n s h ∙ ap (λ (b : Bool). eqb s n || b) (w s) ∙ elim (ℕ-discrete s n) [
       | yes q ↦ rw (q, eq-eqb n n refl, lt-ltb n (n + 1) (omega arith), e)
       | no q ↦ elim (decLt s n) [
@@ -188,8 +187,8 @@ module _ (rows : List ℕ) (t : ℕ) where
       ]
     ]
 
-    pub column-out : hasBit (rowOf rows n) t ≡ false → (s : ℕ) → hasBit word s ≡ relatedIn rows (n + 1) s t
-    unfolding relatedIn
+    pub column-out : hasBit (getD words n 0) t ≡ false → (s : ℕ) → hasBit word s ≡ inColumn words t (n + 1) s
+    unfolding inColumn
     column-out e s = w s ∙ elim (ℕ-discrete s n) [
       | yes q ↦ rw (q, le-ltb n n (omega arith), lt-ltb n (n + 1) (omega arith), e)
       | no q ↦ elim (decLt s n) [
@@ -198,17 +197,42 @@ module _ (rows : List ℕ) (t : ℕ) where
       ]
     ]
 
+-- ---- the rows as words
+
+module _ (rows : List ℕ) where
+  -- The words of the first n rows.
+  abbrev wordsUpTo : ℕ → ℕ → ℕ
+  wordsUpTo n s = cond (ltb s n) (rowOf rows s) 0
+
+  pub words-length : (n : ℕ) {l : List ℕ} → l ≡ rowWords rows n → length l ≡ 64
+  unfolding rowWords
+  words-length n e = ap length e ∙ length-tabulate 64 (wordsUpTo n)
+
+  pub words-none : {l : List ℕ} → l ≡ tabulate 64 (λ _. 0) → l ≡ rowWords rows 0
+  unfolding rowWords
+  words-none e = e ∙ tabulate-cong 64 (λ _. 0) (wordsUpTo 0) (λ s h. sym (rw (le-ltb s 0 (omega arith))))
+
+  pub words-more : {n v : ℕ} {l : List ℕ} → l ≡ rowWords rows n → n < 64 → v ≡ rowOf rows n → set l n v ≡ rowWords rows (n + 1)
+  unfolding rowWords
+  words-more {n} {v} {l} e h q =
+      ap (λ (x : List ℕ). set x n v) e
+      ∙ tabulate-set 64 n v (wordsUpTo n) (wordsUpTo (n + 1)) h (q ∙ sym (rw (lt-ltb n (n + 1) (omega arith))))
+      (λ s l d. elim (decLt s n) [
+        | yes k ↦ rw (lt-ltb s n k, lt-ltb s (n + 1) (omega arith))
+        | no k ↦ rw (le-ltb s n (omega arith), le-ltb s (n + 1) (omega arith))
+      ])
+
 -- ---- the start
 
 zeros : (n i : ℕ) → getD (tabulate n (λ _. 0)) i 0 ≡ 0
 zeros n i = elim (decLt i n) [ yes l ↦ getD-tabulate n i (λ _. 0) l | no l ↦ getD-past (tabulate n (λ _. 0)) i (rw length-tabulate (omega arith)) ]
 
-pub states-none : (labels rows : List ℕ) (n1 side : ℕ) {l : List ℕ} → l ≡ tabulate 512 (λ _. 0) → StatesPlanned labels rows n1 side 0 l
-states-none labels rows n1 side {l} e =
+pub states-none : (labels rows : List ℕ) (side : ℕ) {l : List ℕ} → l ≡ tabulate 512 (λ _. 0) → StatesPlanned labels rows side 0 l
+states-none labels rows side {l} e =
     let z : (i : ℕ) → getD l i 0 ≡ 0 = λ i. ap (λ (x : List ℕ). getD x i 0) e ∙ zeros 512 i in
     record {
       room = ap length e ∙ length-tabulate 512 (λ _. 0);
-      words = λ i. rw (z i) (omega arith);
+      fit = λ i. rw (z i) (omega arith);
       related-are = λ s h. absurd (not-suc-le-zero h);
       no-successors = λ s h. z (64 + s);
       no-steps = λ s h. absurd (not-suc-le-zero h);
@@ -216,12 +240,12 @@ states-none labels rows n1 side {l} e =
     }
 
 -- no step is linked yet
-pub steps-none : {labels rows : List ℕ} {n1 side : ℕ} {l : List ℕ} (steps : List ℕ) → StepsFit steps → StatesPlanned labels rows n1 side 64 l → StepsPlanned steps l (stepsIn steps) l
-steps-none {labels} {rows} {n1} {side} {l} steps fit w =
+pub steps-none : {labels rows : List ℕ} {side : ℕ} {l : List ℕ} (steps : List ℕ) → StepsFit steps → StatesPlanned labels rows side 64 l → StepsPlanned steps l (stepsIn steps) l
+steps-none {labels} {rows} {side} {l} steps fit w =
     let f = fit .few in
     record {
       room = w .room;
-      words = w .words;
+      fit = w .fit;
       related-kept = λ s h. refl;
       labels-kept = λ s h. refl;
       successors-are = λ s h u.
@@ -238,11 +262,11 @@ steps-none {labels} {rows} {n1} {side} {l} steps fit w =
         omega (arith, a, q .1)
 
 -- all are
-pub plan-is : {labels rows : List ℕ} {n1 side : ℕ} {l : List ℕ} (steps plan : List ℕ) → StepsFit steps → StatesPlanned labels rows n1 side 64 l → StepsPlanned steps l 0 plan
-    → PlanOf labels rows n1 side steps plan
+pub plan-is : {labels rows : List ℕ} {side : ℕ} {l : List ℕ} (steps plan : List ℕ) → StepsFit steps → StatesPlanned labels rows side 64 l → StepsPlanned steps l 0 plan
+    → PlanOf labels rows side steps plan
 plan-is steps plan fit w p =
     record {
-      words = p .words;
+      fit = p .fit;
       related-are = λ s h t. ap (λ (x : ℕ). hasBit x t) (p .related-kept s h) ∙ w .related-are s h t;
       successors-are = λ s h u. p .successors-are s h u ∙ any-cong _ _ _ (λ k l. rw (le-leb 0 k (omega arith)));
       labels-are = λ s h. p .labels-kept s h ∙ w .labels-are s h;

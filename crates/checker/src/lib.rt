@@ -26,12 +26,12 @@ ghost use mathlib.Core.List.{_++_};
 ghost use Prim.Native.Nat.{ℕ, _+_, _*_, _^_, _≤_, _<_};
 ghost use lib.ListN.{length, getD, drop};
 ghost use Rattle.tables.specs.Table.{statesOf};
-ghost use Rattle.words.specs.Bits.{hasBit};
-ghost use Rattle.certificates.specs.CertificateModel.{relatedIn};
+ghost use Rattle.lists.specs.Below.{sumBelow};
+ghost use Rattle.words.specs.Bits.{hasBit, countBits};
 ghost use Rattle.certificates.specs.declared.Sizes.{Sizes};
 ghost use Rattle.checker.specs.Progress.{none, addTo, total, progress, endAnswer};
-ghost use Rattle.checker.specs.Plan.{stepsIn, relativesOf, StatesPlanned, StepsPlanned, StepsFit, PlanOf, Links, Small, Within, leftRun, rightRun, failedAt, rankAt, outcomeAt, stepChecks, checksAt, rowChecks, allChecks};
-ghost use Rattle.checker.specs.Judge.{blank, tableThen, certificateThen, pairsIn, AllRead, judgedBytes, judgeAnswer};
+ghost use Rattle.checker.specs.Plan.{stepsIn, rowWords, inColumn, relativesOf, StatesPlanned, StepsPlanned, StepsFit, PlanOf, Links, Small, Within, leftRun, rightRun, failedAt, rankAt, outcomeAt, stepChecks, checksAt, rowChecks, allChecks};
+ghost use Rattle.checker.specs.Judge.{blank, tableThen, certificateThen, AllRead, judgedBytes, judgeAnswer};
 
 // How many obligations each clause has met.
 struct Tally {
@@ -337,15 +337,30 @@ fn check_all(
     Progress::On(met)
 }
 
-// The states s of the left, of n1, that are related to t.
-fn column(rows: &[u8], n1: usize, t: usize) -> Row
+// The rows as words: row s for s below n1, and empty words after them.
+fn row_words(rows: &[u8], n1: usize) -> [u64; 64]
     requires { ⌜ n1 ≤ 64 ⌝ }
-    ensures { λ r. ⌜ ((s : ℕ) → hasBit (r .0) s ≡ relatedIn (now (rows .entry)) n1 s t) ⌝ }
+    ensures { λ r. ⌜ r ≡ rowWords (now (rows .entry)) n1 ⌝ }
 {
-    let mut states = Row::empty();
+    let mut words: [u64; 64] = [0; 64];
     let mut s: usize = 0;
     while s < n1 {
         let word = row(rows, s);
+        words[s] = word.0;
+        s += 1;
+    }
+    words
+}
+
+// The states whose word has t.
+fn column(words: &[u64], t: usize) -> Row
+    requires { ⌜ length (now words) ≡ 64 ⌝ }
+    ensures { λ r. ⌜ ((s : ℕ) → hasBit (r .0) s ≡ inColumn (now (words .entry)) t 64 s) ⌝ }
+{
+    let mut states = Row::empty();
+    let mut s: usize = 0;
+    while s < 64 {
+        let word = Row(words[s]);
         if word.has(t) {
             states = states.add(s);
         }
@@ -354,29 +369,26 @@ fn column(rows: &[u8], n1: usize, t: usize) -> Row
     states
 }
 
-// The states that are related to the state s of the side.
-fn relatives(rows: &[u8], n1: usize, side: usize, s: usize) -> Row
-    requires { ⌜ n1 ≤ 64 ⌝ }
-    ensures { λ r. ⌜ ((t : ℕ) → hasBit (r .0) t ≡ relativesOf (now (rows .entry)) n1 side s t) ⌝ }
+// The states that are related to the state s of the side, where the words are the rows.
+fn relatives(words: &[u64], side: usize, s: usize) -> Row
+    requires { ⌜ (length (now words) ≡ 64) × (s < 64) ⌝ }
+    ensures { λ r. ⌜ ((t : ℕ) → hasBit (r .0) t ≡ relativesOf (now (words .entry)) side s t) ⌝ }
 {
     if side != 0 {
-        return column(rows, n1, s);
+        return column(words, s);
     }
-    if s < n1 {
-        return row(rows, s);
-    }
-    Row::empty()
+    Row(words[s])
 }
 
 // The plan's words of states: their relatives and labels, and no step yet.
-fn plan_states(labels: &[u8], rows: &[u8], n1: usize, side: usize) -> [u64; 512]
-    requires { ⌜ n1 ≤ 64 ⌝ }
-    ensures { λ r. ⌜ StatesPlanned (now (labels .entry)) (now (rows .entry)) n1 side 64 r ⌝ }
+fn plan_states(labels: &[u8], words: &[u64], side: usize) -> [u64; 512]
+    requires { ⌜ length (now words) ≡ 64 ⌝ }
+    ensures { λ r. ⌜ StatesPlanned (now (labels .entry)) (now (words .entry)) side 64 r ⌝ }
 {
     let mut plan: [u64; 512] = [0; 512];
     let mut s: usize = 0;
     while s < 64 {
-        let word = relatives(rows, n1, side, s);
+        let word = relatives(words, side, s);
         plan[s] = word.0;
         plan[128 + s] = 256;
         plan[192 + s] = label(labels, s);
@@ -406,23 +418,23 @@ fn plan_steps(states: [u64; 512], steps: &[u8]) -> [u64; 512]
 }
 
 // The plan of a side: 0 left, 1 right.
-fn plan_side(labels: &[u8], rows: &[u8], n1: usize, side: usize, steps: &[u8]) -> [u64; 512]
-    requires { ⌜ (n1 ≤ 64) × StepsFit (now steps) ⌝ }
-    ensures { λ r. ⌜ PlanOf (now (labels .entry)) (now (rows .entry)) n1 side (now (steps .entry)) r ⌝ }
+fn plan_side(labels: &[u8], words: &[u64], side: usize, steps: &[u8]) -> [u64; 512]
+    requires { ⌜ (length (now words) ≡ 64) × StepsFit (now steps) ⌝ }
+    ensures { λ r. ⌜ PlanOf (now (labels .entry)) (now (words .entry)) side (now (steps .entry)) r ⌝ }
 {
-    let states = plan_states(labels, rows, n1, side);
+    let states = plan_states(labels, words, side);
     plan_steps(states, steps)
 }
 
-// The related pairs: the ones of the first n1 rows.
-fn count_pairs(rows: &[u8], n1: usize) -> usize
-    requires { ⌜ n1 ≤ 64 ⌝ }
-    ensures { λ r. ⌜ r ≡ pairsIn (now (rows .entry)) n1 ⌝ }
+// The related pairs: the ones of all words.
+fn count_pairs(words: &[u64]) -> usize
+    requires { ⌜ length (now words) ≡ 64 ⌝ }
+    ensures { λ r. ⌜ r ≡ sumBelow 64 (λ s. countBits (getD (now (words .entry)) s 0)) ⌝ }
 {
     let mut pairs: usize = 0;
     let mut s: usize = 0;
-    while s < n1 {
-        let word = row(rows, s);
+    while s < 64 {
+        let word = Row(words[s]);
         pairs += word.count();
         s += 1;
     }
@@ -453,6 +465,7 @@ fn judge_read(left: &[u8], right: &[u8], certificate: &[u8], s: usize, t: usize)
 {
     let sizes = Sizes::of(left, right);
     let rows = rows(certificate, sizes);
+    let words = row_words(rows, sizes.n1 as usize);
     let word = row(rows, s);
     if !word.has(t) {
         return Answer {
@@ -464,13 +477,13 @@ fn judge_read(left: &[u8], right: &[u8], certificate: &[u8], s: usize, t: usize)
             d: 0,
         };
     }
-    let n1 = sizes.n1 as usize;
+    let pairs = count_pairs(&words);
     let left_steps = steps(left);
     let right_steps = steps(right);
-    let ours = plan_side(labels(left), rows, n1, 0, left_steps);
-    let theirs = plan_side(labels(right), rows, n1, 1, right_steps);
+    let ours = plan_side(labels(left), &words, 0, left_steps);
+    let theirs = plan_side(labels(right), &words, 1, right_steps);
     let end = check_all(left_steps, right_steps, &ours, &theirs, certificate, sizes);
-    end_answer(end, count_pairs(rows, n1))
+    end_answer(end, pairs)
 }
 
 // The answer of a table's read that is no header; for a header it is blank.

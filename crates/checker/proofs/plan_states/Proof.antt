@@ -1,5 +1,5 @@
 -- `checker::plan_states` meets its contract: each turn adds one state's words. Assumes nothing.
-use Prim.Native.Nat.{ℕ, _-_, _≤_, _^_, _<_}
+use Prim.Native.Nat.{ℕ, _-_, _≤_}
 use mathlib.Core.Path.{_≡_, refl}
 use native.Mathlib.Omega.{arith}
 use denote.Ref.{now}
@@ -11,14 +11,14 @@ use Rattle.checker.proofs.plan_states.Statement.{statement}
 use Rattle.checker.proofs.plan_states.Tie as tie
 
 abbrev Inv-loop : tie.InvT-loop
-Inv-loop labels rows n1 side plan₀ s₀ plan s = StatesPlanned labels rows n1 side s plan × (s ≤ 64)
+Inv-loop labels words side plan₀ s₀ plan s = StatesPlanned labels words side s plan × (s ≤ 64)
 
 abbrev μ-loop : tie.MeasureT-loop
-μ-loop labels rows n1 side plan₀ s₀ plan s = 64 - s
+μ-loop labels words side plan₀ s₀ plan s = 64 - s
 
 loop-holds : tie.Need-loop-holds Inv-loop μ-loop
 unfolding tabulate
-loop-holds c = (states-none _ _ _ _ refl, omega arith)
+loop-holds c = (states-none _ _ _ refl, omega arith)
 
 relatives-requires : tie.Need-relatives-requires Inv-loop μ-loop
 relatives-requires c κs = search needs
@@ -60,7 +60,7 @@ loop-again : tie.Need-loop-again Inv-loop μ-loop
 loop-again c =
     let a = c .before .before .before .before .before .before .args in
     let l = c .before .before .before .loop in
-    (states-more (now (a .labels)) (now (a .rows)) (a .n1) (a .side) (l .inv .0) (omega arith) (c .before .relatives .ensures) (omega arith) (c .label .ensures .0) (c .label .ensures .1), omega arith)
+    (states-more (now (a .labels)) (now (a .words)) (a .side) (l .inv .0) (omega arith) (c .before .relatives .ensures) (omega arith) (c .label .ensures .0) (c .label .ensures .1), omega arith)
 
 returns : tie.Need-returns Inv-loop μ-loop
 returns c =
