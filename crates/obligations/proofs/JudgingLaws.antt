@@ -107,10 +107,10 @@ module _ (v : View) (r : Ranks) where
       go (stops answer) e rest = absurd (let z : _≡_ {A = ℕ} 0 1 = cc e in omega arith)
 
 -- a step's check goes on exactly where its obligation is met
-step-i : (v : View) (r : Ranks) (j t side a b c : ℕ) → T (isMet (outcome v r j t)) → T (goes (stepResult side a b c (obligationAt v r j t)))
+pub step-i : (v : View) (r : Ranks) (j t side a b c : ℕ) → T (isMet (outcome v r j t)) → T (goes (stepResult side a b c (obligationAt v r j t)))
 step-i v r j t side a b c h = let q = met-iff v r j t .0 h in rw (q .1) tt
 
-step-e : (v : View) (r : Ranks) (j t side a b c : ℕ) → T (goes (stepResult side a b c (obligationAt v r j t))) → T (isMet (outcome v r j t))
+pub step-e : (v : View) (r : Ranks) (j t side a b c : ℕ) → T (goes (stepResult side a b c (obligationAt v r j t))) → T (isMet (outcome v r j t))
 step-e v r j t side a b c h = met-iff v r j t .1 (go (obligationAt v r j t) h)
   where
     go : (o : Outcome) → T (goes (stepResult side a b c o)) → (k : Clause) × (o ≡ Met k)
@@ -118,7 +118,7 @@ step-e v r j t side a b c h = met-iff v r j t .1 (go (obligationAt v r j t) h)
     go (Failed e) h = absurd h
 
 -- the labels' check goes on exactly where they are equal
-label-i : (v : View) (r : Ranks) (s t : ℕ) → v .own .label s ≡ v .other .label t → Goes v r (labelsOf s t)
+pub label-i : (v : View) (r : Ranks) (s t : ℕ) → v .own .label s ≡ v .other .label t → Goes v r (labelsOf s t)
 unfolding result
 label-i v r s t e = go (eqb (v .own .label s) (v .other .label t)) (eq→eqb _ _ e)
   where
@@ -126,7 +126,7 @@ label-i v r s t e = go (eqb (v .own .label s) (v .other .label t)) (eq→eqb _ _
     go true h = tt
     go false h = absurd h
 
-label-e : (v : View) (r : Ranks) (s t : ℕ) → Goes v r (labelsOf s t) → v .own .label s ≡ v .other .label t
+pub label-e : (v : View) (r : Ranks) (s t : ℕ) → Goes v r (labelsOf s t) → v .own .label s ≡ v .other .label t
 unfolding result
 label-e v r s t h = eqb→eq _ _ (go (eqb (v .own .label s) (v .other .label t)) h)
   where

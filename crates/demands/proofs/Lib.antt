@@ -1,0 +1,2 @@
+-- The theorems, and the laws that they stand on.
+pub mod CheckLaws
