@@ -1,0 +1,3 @@
+-- Laws of the maker's arithmetic for one side.
+pub mod SideLaws
+pub mod RelaxingLaws

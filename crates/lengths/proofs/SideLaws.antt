@@ -1,0 +1,37 @@
+-- Laws of the view of a side: its steps are plain, its words have states below 64 only, and its steps lie in their part. Assumes nothing.
+use Prim.Native.Nat.{ℕ, _*_, _^_, _≤_, _<_}
+use mathlib.Core.Bool.{Bool, true, false, cond}
+use mathlib.Core.List.{List}
+use native.Mathlib.Nat.{zero-lt-suc}
+use native.Mathlib.Omega.{arith}
+use lib.Dec.{T, ltb}
+use lib.ListN.{length, getD}
+use Rattle.words.specs.Bits.{hasBit}
+use Rattle.words.proofs.BitLaws.{has-lt}
+use Rattle.bisimulation.specs.Systems.{Plain}
+use Rattle.lengths.specs.Side.{stepCount, wordOf, sideOf}
+
+pub side-plain : (related own other : List ℕ) (n : ℕ) → Plain (sideOf related own other n)
+side-plain related own other n = record { silent = λ j. tt; silent′ = λ k. tt; answers = λ j k. tt }
+
+-- the steps that count lie in their part
+pub steps-fit : (steps : List ℕ) → stepCount steps * 2 ≤ length steps
+unfolding stepCount
+steps-fit steps = omega arith
+
+pub steps-few : (steps : List ℕ) → stepCount steps ≤ 256
+unfolding stepCount
+steps-few steps = omega arith
+
+module _ (words : List ℕ) (word : (i : ℕ) → getD words i 0 < 2 ^ 64) where
+  pub word-fits : (s : ℕ) → wordOf words s < 2 ^ 64
+  unfolding wordOf
+  word-fits s = go (ltb s 64)
+    where
+      go : (b : Bool) → cond b (getD words s 0) 0 < 2 ^ 64
+      go true = word s
+      go false = zero-lt-suc _
+
+  -- a related state of the other side is below 64
+  pub word-small : (s t : ℕ) → T (hasBit (wordOf words s) t) → t < 64
+  word-small s t h = has-lt (wordOf words s) t (word-fits s) h
