@@ -1,3 +1,4 @@
 -- Laws of the maker's arithmetic for one side.
 pub mod SideLaws
 pub mod RelaxingLaws
+pub mod CellLaws

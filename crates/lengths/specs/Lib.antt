@@ -1,2 +1,3 @@
 pub mod Side
 pub mod Relaxing
+pub mod Cells

@@ -1,16 +1,22 @@
 // The maker's arithmetic for one side: match distances by relaxing a row of lengths, and the lengths of stuttering chains by recursion on their bound.
 use words::Row;
 ghost use mathlib.Core.Path.{_≡_};
-ghost use Prim.Native.Nat.{_<_};
-ghost use lib.ListN.{getD};
-ghost use Rattle.lists.specs.Lists.{tabulate};
+ghost use Prim.Native.Nat.{_≤_, _<_};
+ghost use lib.ListN.{length, getD};
+ghost use Rattle.lists.specs.Lists.{tabulate, grid};
 ghost use Rattle.bisimulation.specs.Maker.{distance};
 ghost use Rattle.lengths.specs.Side.{stepCount, wordOf, sideOf};
+ghost use Rattle.lengths.specs.Cells.{distanceAt};
 ghost use Rattle.lengths.specs.Relaxing.{shortens, Bounds, Round};
 
 // A length for each state below 64.
 pub struct Lengths {
     pub at: [u8; 64],
+}
+
+// The match distances of the own steps: that of step j at t stands at 64 j + t.
+pub struct Distances {
+    pub at: [u8; 16384],
 }
 
 // A row after a round, and whether the round changed it.
@@ -121,4 +127,43 @@ pub fn step_distances(related: &[u64], own: &[u8], other: &[u8], n: u8, j: usize
         changed = next.changed;
     }
     row
+}
+
+// The match distances of the own step j, and zeros past the last step.
+fn distance_row(related: &[u64], own: &[u8], other: &[u8], n: u8, j: usize) -> Lengths
+    ensures { λ r. ⌜ r .at ≡ tabulate 64 (distanceAt (sideOf (now (related .entry)) (now (own .entry)) (now (other .entry)) n) j) ⌝ }
+{
+    if step_count(own) <= j {
+        return Lengths { at: [0; 64] };
+    }
+    step_distances(related, own, other, n, j)
+}
+
+// Writes the lengths over a part of up to 64 bytes.
+fn put(lengths: Lengths, row: &mut [u8])
+    requires { ⌜ length (now row) ≤ 64 ⌝ }
+    ensures { λ _. ⌜ now (row .exit) ≡ tabulate (length (now (row .entry))) (λ t. getD (lengths .at) t 0) ⌝ }
+{
+    let mut i: usize = 0;
+    while i < row.len() {
+        row[i] = lengths.at[i];
+        i += 1;
+    }
+}
+
+// The match distances of all own steps, row by row.
+pub fn all_distances(related: &[u64], own: &[u8], other: &[u8], n: u8) -> Distances
+    ensures { λ r. ⌜ r .at ≡ grid 256 64 (distanceAt (sideOf (now (related .entry)) (now (own .entry)) (now (other .entry)) n)) ⌝ }
+{
+    let mut at = [0u8; 16384];
+    let mut a: usize = 0;
+    let mut j: usize = 0;
+    while j < 256 {
+        let e = a + 64;
+        let row = distance_row(related, own, other, n, j);
+        put(row, &mut at[a..e]);
+        a = e;
+        j += 1;
+    }
+    Distances { at }
 }
