@@ -1,11 +1,13 @@
 -- Laws of the tables of lengths: their rows, and what their cells say. Assumes nothing.
-use Prim.Native.Nat.{ℕ, _≤_, _<_}
+use Prim.Native.Nat.{_+_, _-_, _*_, ℕ, _≤_, _<_}
 use mathlib.Core.Path.{_≡_, sym, ap, _∙_}
 use mathlib.Core.List.{List}
-use lib.ListN.{getD, replicate, getD-replicate, length-replicate}
+use lib.ListN.{length, getD, replicate, getD-replicate, length-replicate}
+use native.Mathlib.Omega.{arith}
+use borrow.Rule.Slice.PartMut.{putMid}
 use borrow.Author.Tests.{lt-ltb, le-ltb}
-use Rattle.lists.specs.Lists.{tabulate}
-use Rattle.lists.proofs.FillLaws.{tabulate-of, tabulate-cong, getD-tabulate}
+use Rattle.lists.specs.Lists.{tabulate, part}
+use Rattle.lists.proofs.FillLaws.{tabulate-of, tabulate-cong, getD-tabulate, Rows, rows-more, row-fits, part-length}
 use Rattle.bisimulation.specs.Systems.{View}
 use Rattle.bisimulation.specs.Maker.{distance}
 use Rattle.lengths.specs.Cells.{distanceAt}
@@ -23,6 +25,18 @@ module _ (v : View) (j : ℕ) where
   unfolding distanceAt
   distances-at h e = e ∙ tabulate-cong 64 _ _ (λ t l. simp (lt-ltb j (v .own .steps) h))
 
--- a row that is copied by index, where it has as many cells
-pub row-copied : (n : ℕ) (f : ℕ → ℕ) {m : ℕ} {row copy : List ℕ} → m ≡ n → row ≡ tabulate n f → copy ≡ tabulate m (λ t. getD row t 0) → copy ≡ tabulate m f
-row-copied n f {m} {row} e r c = c ∙ tabulate-cong m _ _ (λ t l. ap (λ (x : List ℕ). getD x t 0) r ∙ getD-tabulate n t f (rw e at l))
+-- ---- a loop that writes n rows of 64 lengths, each lent as a part
+
+module _ (n : ℕ) {j a : ℕ} {f : ℕ → ℕ → ℕ} {d at : List ℕ} (w : Rows j a 64 f d at) (len : length d ≡ n * 64) (h : j < n) where
+  -- the next row has room
+  pub rows-room : a + 64 ≤ length at
+  rows-room = omega (arith, w .at, w .rows .len, row-fits j n 64 h)
+
+  pub rows-part : length (part at a (a + 64)) ≡ 64
+  rows-part = part-length at a 64 rows-room
+
+  -- it is copied by index
+  pub rows-put : {row ys : List ℕ} → row ≡ tabulate 64 (f j) → ys ≡ tabulate (length (part at a (a + 64))) (λ t. getD row t 0) → Rows (j + 1) (a + 64) 64 f d (putMid a (a + 64 - a) at ys)
+  rows-put {row} {ys} r e =
+      rows-more n w h len (e ∙ tabulate-cong (length (part at a (a + 64))) _ _
+      (λ t l. ap (λ (x : List ℕ). getD x t 0) r ∙ getD-tabulate 64 t (f j) (rw rows-part at l)))

@@ -2,3 +2,4 @@
 pub mod SideLaws
 pub mod RelaxingLaws
 pub mod CellLaws
+pub mod ChainLaws

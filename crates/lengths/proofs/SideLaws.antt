@@ -1,13 +1,16 @@
 -- Laws of the view of a side: its steps are plain, its words have states below 64 only, and its steps lie in their part. Assumes nothing.
 use Prim.Native.Nat.{ℕ, _*_, _^_, _≤_, _<_}
+use mathlib.Core.Path.{_≡_, refl}
 use mathlib.Core.Bool.{Bool, true, false, cond}
 use mathlib.Core.List.{List}
 use native.Mathlib.Nat.{zero-lt-suc}
 use native.Mathlib.Omega.{arith}
 use lib.Dec.{T, ltb}
 use lib.ListN.{length, getD}
+use borrow.Author.Tests.{ltb-true}
+use Rattle.lists.proofs.BoolLaws.{false-not-T}
 use Rattle.words.specs.Bits.{hasBit}
-use Rattle.words.proofs.BitLaws.{has-lt}
+use Rattle.words.proofs.BitLaws.{has-lt, has-empty}
 use Rattle.bisimulation.specs.Systems.{Plain}
 use Rattle.lengths.specs.Side.{stepCount, wordOf, sideOf}
 
@@ -35,3 +38,12 @@ module _ (words : List ℕ) (word : (i : ℕ) → getD words i 0 < 2 ^ 64) where
   -- a related state of the other side is below 64
   pub word-small : (s t : ℕ) → T (hasBit (wordOf words s) t) → t < 64
   word-small s t h = has-lt (wordOf words s) t (word-fits s) h
+
+-- an own state with a related state is below 64
+pub word-state : (words : List ℕ) (s t : ℕ) → T (hasBit (wordOf words s) t) → s < 64
+unfolding wordOf
+word-state words s t h = go (ltb s 64) refl h
+  where
+    go : (b : Bool) → ltb s 64 ≡ b → T (hasBit (cond b (getD words s 0) 0) t) → s < 64
+    go true e k = ltb-true s 64 e
+    go false e k = absurd (false-not-T _ (has-empty t) k)

@@ -1,3 +1,4 @@
 pub mod Side
 pub mod Relaxing
 pub mod Cells
+pub mod Chains

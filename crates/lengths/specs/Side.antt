@@ -1,7 +1,7 @@
 -- One side of the maker's arithmetic as the theory's view: the own steps, the other side's steps, and for each own state the word of the other's
 -- states that are related to it.
 use Prim.Native.Nat.{ℕ, _/_, min}
-use mathlib.Core.Bool.{Bool, true, false, cond}
+use mathlib.Core.Bool.{true, false, cond}
 use mathlib.Core.List.{List}
 use lib.Dec.{ltb}
 use lib.ListN.{length, getD}

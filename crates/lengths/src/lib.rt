@@ -1,12 +1,14 @@
 // The maker's arithmetic for one side: match distances by relaxing a row of lengths, and the lengths of stuttering chains by recursion on their bound.
+use lists::byte;
 use words::Row;
 ghost use mathlib.Core.Path.{_≡_};
-ghost use Prim.Native.Nat.{_≤_, _<_};
+ghost use Prim.Native.Nat.{ℕ, _≤_, _<_};
 ghost use lib.ListN.{length, getD};
 ghost use Rattle.lists.specs.Lists.{tabulate, grid};
-ghost use Rattle.bisimulation.specs.Maker.{distance};
+ghost use Rattle.bisimulation.specs.Maker.{distance, chainLength};
 ghost use Rattle.lengths.specs.Side.{stepCount, wordOf, sideOf};
 ghost use Rattle.lengths.specs.Cells.{distanceAt};
+ghost use Rattle.lengths.specs.Chains.{sideBy, chainBy, openSide, isOpen, longest, Ends, Open};
 ghost use Rattle.lengths.specs.Relaxing.{shortens, Bounds, Round};
 
 // A length for each state below 64.
@@ -17,6 +19,17 @@ pub struct Lengths {
 // The match distances of the own steps: that of step j at t stands at 64 j + t.
 pub struct Distances {
     pub at: [u8; 16384],
+}
+
+// Chain lengths at all states of the other side: that at t from s stands at 64 t + s.
+pub struct Chains {
+    pub at: [u8; 4096],
+}
+
+// Steps that are kept, both ends of each, and how many they are.
+struct Kept {
+    steps: [u8; 512],
+    count: usize,
 }
 
 // A row after a round, and whether the round changed it.
@@ -166,4 +179,98 @@ pub fn all_distances(related: &[u64], own: &[u8], other: &[u8], n: u8) -> Distan
         j += 1;
     }
     Distances { at }
+}
+
+// Whether the own step j may stand in a chain at t, by a table of distances.
+fn is_open(related: &[u64], own: &[u8], distances: &[u8], n: u8, t: usize, j: usize) -> bool
+    requires { ⌜ j < 256 ⌝ }
+    ensures { λ r. ⌜ r ≡ isOpen (sideBy (now (related .entry)) (now (own .entry)) (now (distances .entry)) n t) t j ⌝ }
+{
+    if 64 <= tables::from(own, j) {
+        return false;
+    }
+    let to = word(related, tables::to(own, j));
+    if to.has(t) {
+        return wide(n) <= byte(distances, j * 64 + t);
+    }
+    false
+}
+
+// The own steps that may stand in a chain at t.
+fn open_steps(related: &[u64], own: &[u8], distances: &[u8], n: u8, t: usize) -> Kept
+    ensures { λ r. ⌜ Open (sideBy (now (related .entry)) (now (own .entry)) (now (distances .entry)) n t) t (stepCount (now (own .entry))) (r .steps) (r .count) ⌝ }
+{
+    let m = step_count(own);
+    let mut steps = [0u8; 512];
+    let mut count: usize = 0;
+    let mut j: usize = 0;
+    while j < m {
+        if is_open(related, own, distances, n, t, j) {
+            steps[count * 2] = own[j * 2];
+            steps[count * 2 + 1] = own[j * 2 + 1];
+            count += 1;
+        }
+        j += 1;
+    }
+    Kept { steps, count }
+}
+
+// One round: for each state one more than the greatest length over its next states, and 0 where no step leaves it.
+fn lengthen(steps: &[u8], before: Lengths) -> Lengths
+    requires { ⌜ Ends (now steps) ⌝ }
+    requires { ⌜ ((i : ℕ) → getD (before .at) i 0 < 255) ⌝ }
+    ensures { λ r. ⌜ r .at ≡ tabulate 64 (longest (now (steps .entry)) (λ u. getD (before .at) u 0) (stepCount (now (steps .entry)))) ⌝ }
+{
+    let m = step_count(steps);
+    let mut next = Lengths { at: [0; 64] };
+    let mut j: usize = 0;
+    while j < m {
+        let x = wide(steps[j * 2]);
+        let y = wide(steps[j * 2 + 1]);
+        let more = before.at[y] + 1;
+        if next.at[x] < more {
+            next.at[x] = more;
+        }
+        j += 1;
+    }
+    next
+}
+
+// The most steps in a chain of these steps, of at most k, for all states together.
+fn chain_lengths(steps: &[u8], k: u8) -> Lengths
+    requires { ⌜ Ends (now steps) ⌝ }
+    ensures { λ r. ⌜ r .at ≡ tabulate 64 (chainLength (openSide (now (steps .entry))) 0 k) ⌝ }
+{
+    if k == 0 {
+        return Lengths { at: [0; 64] };
+    }
+    let before = chain_lengths(steps, k - 1);
+    lengthen(steps, before)
+}
+
+// The most steps in a chain at t, of at most k, for all own states together, by a table of distances. The other side has n states.
+pub fn chains_at(related: &[u64], own: &[u8], distances: &[u8], n: u8, t: usize, k: u8) -> Lengths
+    ensures { λ r. ⌜ r .at ≡ tabulate 64 (chainBy (now (related .entry)) (now (own .entry)) (now (distances .entry)) n k t) ⌝ }
+{
+    let kept = open_steps(related, own, distances, n, t);
+    let steps = kept.steps;
+    let e = kept.count * 2;
+    chain_lengths(&steps[0..e], k)
+}
+
+// The most steps in a chain, of at most k, at each state of the other side, row by row.
+pub fn all_chains(related: &[u64], own: &[u8], distances: &[u8], n: u8, k: u8) -> Chains
+    ensures { λ r. ⌜ r .at ≡ grid 64 64 (chainBy (now (related .entry)) (now (own .entry)) (now (distances .entry)) n k) ⌝ }
+{
+    let mut at = [0u8; 4096];
+    let mut a: usize = 0;
+    let mut t: usize = 0;
+    while t < 64 {
+        let e = a + 64;
+        let row = chains_at(related, own, distances, n, t, k);
+        put(row, &mut at[a..e]);
+        a = e;
+        t += 1;
+    }
+    Chains { at }
 }

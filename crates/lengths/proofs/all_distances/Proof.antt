@@ -1,13 +1,12 @@
--- `lengths::all_distances` meets its contract: the rows are lent one after the other, each as a part, and filled. Assumes nothing.
-use Rattle.lists.proofs.FillLaws.{Rows, rows-none, rows-more, rows-all, part-length}
+-- `lengths::all_distances` meets its contract: the rows are lent one after the other, each as a part, and written. Assumes nothing.
+use Prim.Native.Nat.{ℕ, _≤_, _-_}
+use native.Mathlib.Omega.{arith}
 use lib.ListN.{replicate, length-replicate}
+use borrow.Author.Needs.{needs}
+use Rattle.lists.proofs.FillLaws.{Rows, rows-none, rows-all}
 use Rattle.lengths.specs.Side.{sideOf}
 use Rattle.lengths.specs.Cells.{distanceAt}
-use Rattle.lengths.proofs.CellLaws.{row-copied}
-use Prim.Native.Nat.{ℕ, _≤_, _-_, _+_}
-use native.Mathlib.Omega.{arith}
-use lib.ListN.{length}
-use borrow.Author.Needs.{needs}
+use Rattle.lengths.proofs.CellLaws.{rows-room, rows-part, rows-put}
 use Rattle.lengths.proofs.all_distances.Statement.{statement}
 use Rattle.lengths.proofs.all_distances.Tie as tie
 
@@ -33,13 +32,11 @@ part-at-start : tie.Need-part-at-start Inv-loop μ-loop
 part-at-start c = search needs
 
 part-at-end : tie.Need-part-at-end Inv-loop μ-loop
-part-at-end c = omega (arith, c .before .before .loop .inv .0 .at, c .before .before .loop .inv .0 .rows .len, length-replicate {A = ℕ} 16384 0, c .before .loop-test .taken)
+part-at-end c = rows-room 256 (c .before .before .loop .inv .0) (length-replicate {A = ℕ} 16384 0) (c .before .loop-test .taken)
 
 put-requires : tie.Need-put-requires Inv-loop μ-loop
 put-requires c κs =
-    let l = c .before .before .before .loop in
-    let fits : l .a + 64 ≤ length (l .at) = omega (arith, l .inv .0 .at, l .inv .0 .rows .len, length-replicate {A = ℕ} 16384 0, c .before .before .loop-test .taken) in
-    omega (arith, part-length (l .at) (l .a) 64 fits)
+    omega (arith, rows-part 256 (c .before .before .before .loop .inv .0) (length-replicate {A = ℕ} 16384 0) (c .before .before .loop-test .taken))
 
 add-j : tie.Need-add-j Inv-loop μ-loop
 add-j c = search needs
@@ -49,15 +46,11 @@ loop-less c = omega arith
 
 loop-again : tie.Need-loop-again Inv-loop μ-loop
 loop-again c =
-    let l = c .before .before .before .before .before .loop in
-    let fits : l .a + 64 ≤ length (l .at) = omega (arith, l .inv .0 .at, l .inv .0 .rows .len, length-replicate {A = ℕ} 16384 0, c .before .before .before .before .loop-test .taken) in (
-      rows-more 256 (l .inv .0) (c .before .before .before .before .loop-test .taken) (length-replicate {A = ℕ} 16384 0) (row-copied 64 _ (part-length (l .at) (l .a) 64 fits) (c .before .before .before .distance-row .ensures) (c .before .put .ensures)),
-      omega (arith, c .before .before .before .before .loop-test .taken),
-    )
+    let h = c .before .before .before .before .loop-test .taken in
+    (rows-put 256 (c .before .before .before .before .before .loop .inv .0) (length-replicate {A = ℕ} 16384 0) h (c .before .before .before .distance-row .ensures) (c .before .put .ensures), omega arith)
 
 returns : tie.Need-returns Inv-loop μ-loop
-returns c =
-    rows-all 256 (c .before .loop .inv .0) (omega arith) (length-replicate {A = ℕ} 16384 0)
+returns c = rows-all 256 (c .before .loop .inv .0) (omega arith) (length-replicate {A = ℕ} 16384 0)
 
 pub all-distances-spec : {M : Type 1} → statement M
 all-distances-spec =
