@@ -77,11 +77,11 @@ longest-cong : (steps : List ℕ) (f g : ℕ → ℕ) (m s : ℕ) → ((j : ℕ)
 unfolding longest
 longest-cong steps f g m s h = most-cong m _ _ (λ j l. ap (λ (x : ℕ). cond (eqb (fromOf steps j) s) (suc x) 0) (h j l))
 
-and-true : (b : Bool) → (b && true) ≡ b
+pub and-true : (b : Bool) → (b && true) ≡ b
 and-true true = refl
 and-true false = refl
 
-and-false-and : (a b : Bool) → (a && false && b) ≡ false
+pub and-false-and : (a b : Bool) → (a && false && b) ≡ false
 and-false-and true b = refl
 and-false-and false b = refl
 

@@ -3,3 +3,5 @@ pub mod SideLaws
 pub mod RelaxingLaws
 pub mod CellLaws
 pub mod ChainLaws
+pub mod AgreementLaws
+pub mod DistanceLaws

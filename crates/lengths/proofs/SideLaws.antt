@@ -7,7 +7,7 @@ use native.Mathlib.Nat.{zero-lt-suc}
 use native.Mathlib.Omega.{arith}
 use lib.Dec.{T, ltb}
 use lib.ListN.{length, getD}
-use borrow.Author.Tests.{ltb-true}
+use borrow.Author.Tests.{ltb-true, lt-ltb, le-ltb}
 use Rattle.lists.proofs.BoolLaws.{false-not-T}
 use Rattle.words.specs.Bits.{hasBit}
 use Rattle.words.proofs.BitLaws.{has-lt, has-empty}
@@ -25,6 +25,15 @@ steps-fit steps = omega arith
 pub steps-few : (steps : List ℕ) → stepCount steps ≤ 256
 unfolding stepCount
 steps-few steps = omega arith
+
+-- the word of a state below 64 is that of the list, and a state of 64 or more has none
+pub word-at : (words : List ℕ) (s : ℕ) → s < 64 → wordOf words s ≡ getD words s 0
+unfolding wordOf
+word-at words s h = simp (lt-ltb s 64 h)
+
+pub word-none : (words : List ℕ) (s : ℕ) → 64 ≤ s → wordOf words s ≡ 0
+unfolding wordOf
+word-none words s h = simp (le-ltb s 64 h)
 
 module _ (words : List ℕ) (word : (i : ℕ) → getD words i 0 < 2 ^ 64) where
   pub word-fits : (s : ℕ) → wordOf words s < 2 ^ 64

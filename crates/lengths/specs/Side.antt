@@ -1,6 +1,7 @@
 -- One side of the maker's arithmetic as the theory's view: the own steps, the other side's steps, and for each own state the word of the other's
 -- states that are related to it.
 use Prim.Native.Nat.{ℕ, _/_, min}
+use mathlib.Core.Path.{_≡_}
 use mathlib.Core.Bool.{true, false, cond}
 use mathlib.Core.List.{List}
 use lib.Dec.{ltb}
@@ -39,3 +40,17 @@ sideOf related own other n =
       related = λ s t. hasBit (wordOf related s) t;
       answers = λ j k. true;
     }
+
+-- Two views agree in all that distances and chains look at: not in labels, initial states and the number of own states.
+pub record Agrees (v w : View) : Type 0 where
+  pub own-steps : v .own .steps ≡ w .own .steps
+  pub own-from : (j : ℕ) → v .own .from j ≡ w .own .from j
+  pub own-to : (j : ℕ) → v .own .to j ≡ w .own .to j
+  pub own-silent : (j : ℕ) → v .own .silent j ≡ w .own .silent j
+  pub other-states : v .other .states ≡ w .other .states
+  pub other-steps : v .other .steps ≡ w .other .steps
+  pub other-from : (k : ℕ) → v .other .from k ≡ w .other .from k
+  pub other-to : (k : ℕ) → v .other .to k ≡ w .other .to k
+  pub other-silent : (k : ℕ) → v .other .silent k ≡ w .other .silent k
+  pub related : (s t : ℕ) → v .related s t ≡ w .related s t
+  pub answers : (j k : ℕ) → v .answers j k ≡ w .answers j k

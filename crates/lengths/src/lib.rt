@@ -186,11 +186,13 @@ fn is_open(related: &[u64], own: &[u8], distances: &[u8], n: u8, t: usize, j: us
     requires { ⌜ j < 256 ⌝ }
     ensures { λ r. ⌜ r ≡ isOpen (sideBy (now (related .entry)) (now (own .entry)) (now (distances .entry)) n t) t j ⌝ }
 {
-    if 64 <= tables::from(own, j) {
+    let from = tables::from(own, j);
+    let to = tables::to(own, j);
+    if 64 <= from {
         return false;
     }
-    let to = word(related, tables::to(own, j));
-    if to.has(t) {
+    let states = word(related, to);
+    if states.has(t) {
         return wide(n) <= byte(distances, j * 64 + t);
     }
     false

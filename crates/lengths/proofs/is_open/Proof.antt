@@ -19,13 +19,13 @@ use Rattle.lengths.proofs.is_open.Tie as tie
 from-requires : tie.Need-from-requires
 from-requires c κs = search needs
 
-returns : tie.Need-returns
-returns c =
-    let a = c .before .before .before .before .before .args in
-    open-far (now (a .related)) (now (a .own)) (now (a .distances)) (a .n) (a .t) (a .j) (rw (c .before .from .ensures .0) at (c .if1 .taken))
-
 to-requires : tie.Need-to-requires
 to-requires c κs = search needs
+
+returns : tie.Need-returns
+returns c =
+    let a = c .before .before .before .before .before .before .args in
+    open-far (now (a .related)) (now (a .own)) (now (a .distances)) (a .n) (a .t) (a .j) (rw (c .before .before .from .ensures .0) at (c .if1 .taken))
 
 word-requires : tie.Need-word-requires
 word-requires c κs = search needs
@@ -41,10 +41,11 @@ mul-byte c = search needs
 
 add-byte : tie.Need-add-byte
 add-byte c =
-    let a = c .before .before .before .before .before .before .before .before .before .before .args in
-    let small = has-lt (c .before .before .before .word .result .0) (a .t) (rw (c .before .before .before .word .ensures) (word-fits (now (a .related)) (λ i. c .before .before .before .before .before .before .before .before .before .shared-slice-known .given i .fits) (c .before .before .before .before .to .result)))
-    (true-T _ (sym (c .before .before .has .ensures) ∙ c .before .if2 .taken)) in
-    omega (arith, c .before .before .before .before .before .before .before .before .before .before .pre)
+    let s = c .before .before .before .before .before .before .before .before .before .before in
+    let w = c .before .before .before .word in
+    let fits = word-fits (now (s .args .related)) (λ i. c .before .before .before .before .before .before .before .before .before .shared-slice-known .given i .fits) (c .before .before .before .before .before .to .result) in
+    let small = has-lt (w .result .0) (s .args .t) (rw (w .ensures) fits) (true-T _ (sym (c .before .before .has .ensures) ∙ c .before .if2 .taken)) in
+    omega (arith, s .pre)
 
 byte-requires : tie.Need-byte-requires
 byte-requires c κs = search needs
@@ -52,23 +53,23 @@ byte-requires c κs = search needs
 returns-2 : tie.Need-returns-2
 returns-2 c =
     let a = c .before .before .before .before .before .before .before .before .before .before .before .args in
-    let low : fromOf (now (a .own)) (a .j) < 64 = rw (c .before .before .before .before .before .before .before .from .ensures .0) at (c .before .before .before .before .before .before .if1 .left) in
+    let low : fromOf (now (a .own)) (a .j) < 64 = rw (c .before .before .before .before .before .before .before .from .ensures .0) at (c .before .before .before .before .before .if1 .left) in
     ap₂ leb (c .before .wide .ensures .0) (c .byte .ensures .0)
-    ∙ open-by (now (a .related)) (now (a .own)) (now (a .distances)) (a .n) (a .t) (a .j) low (c .before .before .before .has .ensures ∙ ap (λ (w : ℕ). hasBit w (a .t)) (c .before .before .before .before .word .ensures ∙ ap (wordOf (now (a .related))) (c .before .before .before .before .before .to .ensures .0))) (c .before .before .if2 .taken)
+    ∙ open-by (now (a .related)) (now (a .own)) (now (a .distances)) (a .n) (a .t) (a .j) low (c .before .before .before .has .ensures ∙ ap (λ (w : ℕ). hasBit w (a .t)) (c .before .before .before .before .word .ensures ∙ ap (wordOf (now (a .related))) (c .before .before .before .before .before .before .to .ensures .0))) (c .before .before .if2 .taken)
 
 returns-3 : tie.Need-returns-3
 returns-3 c =
     let a = c .before .before .before .before .before .before .before .before .before .args in
-    let low : fromOf (now (a .own)) (a .j) < 64 = rw (c .before .before .before .before .before .from .ensures .0) at (c .before .before .before .before .if1 .left) in
-    open-apart (now (a .related)) (now (a .own)) (now (a .distances)) (a .n) (a .t) (a .j) low (c .before .has .ensures ∙ ap (λ (w : ℕ). hasBit w (a .t)) (c .before .before .word .ensures ∙ ap (wordOf (now (a .related))) (c .before .before .before .to .ensures .0))) (c .if2 .left)
+    let low : fromOf (now (a .own)) (a .j) < 64 = rw (c .before .before .before .before .before .from .ensures .0) at (c .before .before .before .if1 .left) in
+    open-apart (now (a .related)) (now (a .own)) (now (a .distances)) (a .n) (a .t) (a .j) low (c .before .has .ensures ∙ ap (λ (w : ℕ). hasBit w (a .t)) (c .before .before .word .ensures ∙ ap (wordOf (now (a .related))) (c .before .before .before .before .to .ensures .0))) (c .if2 .left)
 
 pub is-open-spec : {M : Type 1} → statement M
 is-open-spec =
     tie.close
     (tie.spec
     from-requires
-    returns
     to-requires
+    returns
     word-requires
     has-requires
     wide-requires
