@@ -1,7 +1,7 @@
 -- Chains by a table of match distances, and the open steps among which they are found.
 use Prim.Native.Nat.{ℕ, suc, _+_, _*_, _≤_, _<_}
 use mathlib.Core.Path.{_≡_}
-use mathlib.Core.Bool.{Bool, true, cond, _&&_}
+use mathlib.Core.Bool.{Bool, true, false, cond, _&&_}
 use mathlib.Core.List.{List, []}
 use lib.Dec.{ltb, leb, eqb}
 use lib.ListN.{length, getD}
@@ -21,7 +21,7 @@ sideBy related own distances n t =
       own = record {
         states = length related;
         steps = stepCount own;
-        initial = λ s. true;
+        initial = λ s. false;
         label = λ s. 0;
         from = fromOf own;
         to = toOf own;

@@ -59,12 +59,12 @@ fn word(words: &[u64], s: usize) -> Row
     ensures { λ r. ⌜ r .0 ≡ wordOf (now (words .entry)) s ⌝ }
 {
     if 64 <= s {
-        return Row(0);
+        return Row::empty();
     }
     if s < words.len() {
         Row(words[s])
     } else {
-        Row(0)
+        Row::empty()
     }
 }
 
