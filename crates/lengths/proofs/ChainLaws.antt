@@ -24,7 +24,8 @@ use Rattle.bisimulation.specs.Maker.{matched, stutters, chainLength}
 use Rattle.bisimulation.proofs.RunLaws.{chain-bound}
 use Rattle.tables.specs.Table.{fromOf, toOf}
 use Rattle.lengths.specs.Side.{stepCount, wordOf}
-use Rattle.lengths.specs.Chains.{sideBy, openSide, isOpen, longest, Ends, Open}
+use Rattle.lengths.specs.Chains.{sideBy}
+use Rattle.lengths.specs.OpenSteps.{openSide, isOpen, longest, Ends, Open}
 use Rattle.lengths.proofs.CellLaws.{zeros}
 use Rattle.lengths.proofs.SideLaws.{word-state}
 

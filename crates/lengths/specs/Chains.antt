@@ -1,15 +1,13 @@
--- Chains by a table of match distances, and the open steps among which they are found.
-use Prim.Native.Nat.{ℕ, suc, _+_, _*_, _≤_, _<_}
-use mathlib.Core.Path.{_≡_}
-use mathlib.Core.Bool.{Bool, true, false, cond, _&&_}
+-- Chains by a table of match distances.
+use Prim.Native.Nat.{ℕ, _+_, _*_}
+use mathlib.Core.Bool.{true, false}
 use mathlib.Core.List.{List, []}
-use lib.Dec.{ltb, leb, eqb}
-use lib.ListN.{length, getD}
-use Rattle.lists.specs.Below.{mostBelow}
+use lib.Dec.{leb}
+use lib.ListN.{length}
 use Rattle.lists.specs.Numbers.{byteAt}
 use Rattle.words.specs.Bits.{hasBit}
 use Rattle.bisimulation.specs.Systems.{View}
-use Rattle.bisimulation.specs.Maker.{stutters, chainLength}
+use Rattle.bisimulation.specs.Maker.{chainLength}
 use Rattle.tables.specs.Table.{fromOf, toOf}
 use Rattle.lengths.specs.Side.{stepCount, wordOf, systemWith}
 
@@ -35,27 +33,3 @@ sideBy related own distances n t =
 -- The most steps in a chain at t from s, for chains of at most k steps, by the table.
 abbrev pub chainBy : (related own distances : List ℕ) → ℕ → ℕ → ℕ → ℕ → ℕ
 chainBy related own distances n k t s = chainLength (sideBy related own distances n t) t k s
-
--- A side all of whose steps may stand in a chain.
-abbrev pub openSide : List ℕ → View
-openSide steps = record { own = systemWith steps 64; other = systemWith [] 0; related = λ s t. true; answers = λ j k. true }
-
--- The own step j is open at t: it leaves a state below 64, and may stand in a chain.
-unfoldable pub isOpen : View → ℕ → ℕ → Bool
-isOpen v t j = ltb (v .own .from j) 64 && stutters v t j
-
--- One more than the greatest length over the next states of s by the first m steps, and 0 where there is none.
-unfoldable pub longest : List ℕ → (ℕ → ℕ) → ℕ → ℕ → ℕ
-longest steps lengths m s = mostBelow m (λ j. cond (eqb (fromOf steps j) s) (suc (lengths (toOf steps j))) 0)
-
--- The ends of all steps are below 64.
-abbrev pub Ends : List ℕ → Type 0
-Ends steps = (i : ℕ) → getD steps i 0 < 64
-
--- `steps` holds, as its first `count`, the open ones of the first j own steps: they lie below 64, and give each state the same greatest length.
-pub record Open (v : View) (t j : ℕ) (steps : List ℕ) (count : ℕ) : Type 0 where
-  pub len : length steps ≡ 512
-  pub few : count ≤ j
-  pub small : (i : ℕ) → i < count * 2 → getD steps i 0 < 64
-  pub same : (lengths : ℕ → ℕ) (s : ℕ) → s < 64 → longest steps lengths count s
-      ≡ mostBelow j (λ i. cond (eqb (v .own .from i) s && stutters v t i) (suc (lengths (v .own .to i))) 0)

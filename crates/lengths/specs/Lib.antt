@@ -1,4 +1,5 @@
 pub mod Side
-pub mod Relaxing
 pub mod Cells
 pub mod Chains
+pub mod Relaxing
+pub mod OpenSteps

@@ -8,7 +8,8 @@ ghost use Rattle.lists.specs.Lists.{tabulate, grid};
 ghost use Rattle.bisimulation.specs.Maker.{distance, chainLength};
 ghost use Rattle.lengths.specs.Side.{stepCount, wordOf, sideOf};
 ghost use Rattle.lengths.specs.Cells.{distanceAt};
-ghost use Rattle.lengths.specs.Chains.{sideBy, chainBy, openSide, isOpen, longest, Ends, Open};
+ghost use Rattle.lengths.specs.Chains.{sideBy, chainBy};
+ghost use Rattle.lengths.specs.OpenSteps.{openSide, isOpen, longest, Ends, Open};
 ghost use Rattle.lengths.specs.Relaxing.{shortens, Bounds, Round};
 
 // A length for each state below 64.
@@ -133,11 +134,11 @@ pub fn step_distances(related: &[u64], own: &[u8], other: &[u8], n: u8, j: usize
     ensures { λ r. ⌜ r .at ≡ tabulate 64 (distance (sideOf (now (related .entry)) (now (own .entry)) (now (other .entry)) n) j) ⌝ }
 {
     let mut row = start(related, own, other, n, j);
-    let mut changed = true;
-    while changed {
+    let mut again = true;
+    while again {
         let next = relax(related, own, other, n, j, row);
         row = next.row;
-        changed = next.changed;
+        again = next.changed;
     }
     row
 }

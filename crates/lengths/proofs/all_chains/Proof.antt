@@ -1,5 +1,5 @@
 -- `lengths::all_chains` meets its contract: the rows are lent one after the other, each as a part, and written. Assumes nothing.
-use Prim.Native.Nat.{ℕ, _≤_, _-_}
+use Prim.Native.Nat.{ℕ, _≤_, _<_, _-_}
 use native.Mathlib.Omega.{arith}
 use lib.ListN.{replicate, length-replicate}
 use borrow.Author.Needs.{needs}
@@ -31,11 +31,11 @@ part-at-start : tie.Need-part-at-start Inv-loop μ-loop
 part-at-start c = search needs
 
 part-at-end : tie.Need-part-at-end Inv-loop μ-loop
-part-at-end c = rows-room 64 (c .before .before .loop .inv .0) (length-replicate {A = ℕ} 4096 0) (c .before .loop-test .taken)
+part-at-end c = rows-room 64 (c .before .before .loop .inv .0) (length-replicate {A = ℕ} 4096 0) (omega (arith, c .before .loop-test .taken))
 
 put-requires : tie.Need-put-requires Inv-loop μ-loop
 put-requires c κs =
-    omega (arith, rows-part 64 (c .before .before .before .loop .inv .0) (length-replicate {A = ℕ} 4096 0) (c .before .before .loop-test .taken))
+    omega (arith, rows-part 64 (c .before .before .before .loop .inv .0) (length-replicate {A = ℕ} 4096 0) (omega (arith, c .before .before .loop-test .taken)))
 
 add-t : tie.Need-add-t Inv-loop μ-loop
 add-t c = search needs
@@ -45,7 +45,7 @@ loop-less c = omega arith
 
 loop-again : tie.Need-loop-again Inv-loop μ-loop
 loop-again c =
-    let h = c .before .before .before .before .loop-test .taken in
+    let h : c .before .before .before .before .before .loop .t < 64 = omega (arith, c .before .before .before .before .loop-test .taken) in
     (rows-put 64 (c .before .before .before .before .before .loop .inv .0) (length-replicate {A = ℕ} 4096 0) h (c .before .before .before .chains-at .ensures) (c .before .put .ensures), omega arith)
 
 returns : tie.Need-returns Inv-loop μ-loop

@@ -1,5 +1,5 @@
 -- `lengths::all_distances` meets its contract: the rows are lent one after the other, each as a part, and written. Assumes nothing.
-use Prim.Native.Nat.{ℕ, _≤_, _-_}
+use Prim.Native.Nat.{ℕ, _≤_, _<_, _-_}
 use native.Mathlib.Omega.{arith}
 use lib.ListN.{replicate, length-replicate}
 use borrow.Author.Needs.{needs}
@@ -32,11 +32,11 @@ part-at-start : tie.Need-part-at-start Inv-loop μ-loop
 part-at-start c = search needs
 
 part-at-end : tie.Need-part-at-end Inv-loop μ-loop
-part-at-end c = rows-room 256 (c .before .before .loop .inv .0) (length-replicate {A = ℕ} 16384 0) (c .before .loop-test .taken)
+part-at-end c = rows-room 256 (c .before .before .loop .inv .0) (length-replicate {A = ℕ} 16384 0) (omega (arith, c .before .loop-test .taken))
 
 put-requires : tie.Need-put-requires Inv-loop μ-loop
 put-requires c κs =
-    omega (arith, rows-part 256 (c .before .before .before .loop .inv .0) (length-replicate {A = ℕ} 16384 0) (c .before .before .loop-test .taken))
+    omega (arith, rows-part 256 (c .before .before .before .loop .inv .0) (length-replicate {A = ℕ} 16384 0) (omega (arith, c .before .before .loop-test .taken)))
 
 add-j : tie.Need-add-j Inv-loop μ-loop
 add-j c = search needs
@@ -46,7 +46,7 @@ loop-less c = omega arith
 
 loop-again : tie.Need-loop-again Inv-loop μ-loop
 loop-again c =
-    let h = c .before .before .before .before .loop-test .taken in
+    let h : c .before .before .before .before .before .loop .j < 256 = omega (arith, c .before .before .before .before .loop-test .taken) in
     (rows-put 256 (c .before .before .before .before .before .loop .inv .0) (length-replicate {A = ℕ} 16384 0) h (c .before .before .before .distance-row .ensures) (c .before .put .ensures), omega arith)
 
 returns : tie.Need-returns Inv-loop μ-loop

@@ -43,8 +43,7 @@ add-byte : tie.Need-add-byte
 add-byte c =
     let s = c .before .before .before .before .before .before .before .before .before .before in
     let w = c .before .before .before .word in
-    let fits = word-fits (now (s .args .related)) (λ i. c .before .before .before .before .before .before .before .before .before .shared-slice-known .given i .fits) (c .before .before .before .before .before .to .result) in
-    let small = has-lt (w .result .0) (s .args .t) (rw (w .ensures) fits) (true-T _ (sym (c .before .before .has .ensures) ∙ c .before .if2 .taken)) in
+    let small = has-lt (w .result .0) (s .args .t) (rw (w .ensures) (word-fits (now (s .args .related)) (λ i. c .before .before .before .before .before .before .before .before .before .shared-slice-known .given i .fits) _)) (true-T _ (sym (c .before .before .has .ensures) ∙ c .before .if2 .taken)) in
     omega (arith, s .pre)
 
 byte-requires : tie.Need-byte-requires

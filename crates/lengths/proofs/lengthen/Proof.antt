@@ -3,7 +3,7 @@ use Prim.Native.Nat.{suc}
 use Rattle.lists.specs.Lists.{tabulate}
 use Rattle.tables.specs.Table.{fromOf, toOf}
 use Rattle.lengths.specs.Side.{stepCount}
-use Rattle.lengths.specs.Chains.{longest}
+use Rattle.lengths.specs.OpenSteps.{longest}
 use Rattle.lengths.proofs.SideLaws.{steps-fit}
 use Rattle.lengths.proofs.ChainLaws.{longest-start, longest-raise, longest-stay}
 use Prim.Native.Nat.{ℕ, _≤_, _<_, _-_, _+_, _*_}

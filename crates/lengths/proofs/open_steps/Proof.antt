@@ -1,7 +1,8 @@
 -- `lengths::open_steps` meets its contract: after j steps the open ones among them are kept, in their order. Assumes nothing.
 use Rattle.tables.specs.Table.{fromOf, toOf}
 use Rattle.lengths.specs.Side.{stepCount}
-use Rattle.lengths.specs.Chains.{sideBy, Open}
+use Rattle.lengths.specs.Chains.{sideBy}
+use Rattle.lengths.specs.OpenSteps.{Open}
 use Rattle.lengths.proofs.SideLaws.{steps-fit, steps-few}
 use Rattle.lengths.proofs.ChainLaws.{open-start, open-keep, open-skip, open-ends}
 use Prim.Native.Nat.{_≤_, _<_, _-_, _*_}

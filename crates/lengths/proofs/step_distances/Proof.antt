@@ -13,10 +13,10 @@ use Rattle.lengths.proofs.step_distances.Statement.{statement}
 use Rattle.lengths.proofs.step_distances.Tie as tie
 
 abbrev Inv-loop : tie.InvT-loop
-Inv-loop related own other n j row₀ changed₀ row changed = Bounds (sideOf related own other n) j (stepCount other) (row .at) × (changed ≡ false → Settled (sideOf related own other n) j (stepCount other) (row .at)) × ((i : ℕ) → getD related i 0 < 2 ^ 64)
+Inv-loop related own other n j row₀ again₀ row again = Bounds (sideOf related own other n) j (stepCount other) (row .at) × (again ≡ false → Settled (sideOf related own other n) j (stepCount other) (row .at)) × ((i : ℕ) → getD related i 0 < 2 ^ 64)
 
 abbrev μ-loop : tie.MeasureT-loop
-μ-loop related own other n j row₀ changed₀ row changed = total (row .at) + cond changed 1 0
+μ-loop related own other n j row₀ again₀ row again = total (row .at) + cond again 1 0
 
 start-requires : tie.Need-start-requires Inv-loop μ-loop
 start-requires c κs = search needs
