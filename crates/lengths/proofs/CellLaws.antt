@@ -1,5 +1,5 @@
--- Laws of the tables of lengths: their rows, and what their cells say. Assumes nothing.
-use Prim.Native.Nat.{_+_, _-_, _*_, ℕ, _≤_, _<_}
+-- Laws of the rows of the tables of lengths: what stands in them, and the loop that writes them. Assumes nothing.
+use Prim.Native.Nat.{ℕ, _+_, _-_, _*_, _≤_, _<_}
 use mathlib.Core.Path.{_≡_, sym, ap, _∙_}
 use mathlib.Core.List.{List}
 use lib.ListN.{length, getD, replicate, getD-replicate, length-replicate}

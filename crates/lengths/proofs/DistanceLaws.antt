@@ -1,19 +1,17 @@
 -- Laws of match distances: a step is matched exactly where its distance is below the number of the other's states. Assumes nothing.
 use Prim.Native.Nat.{ℕ, _≤_, _<_}
-use mathlib.Core.Path.{_≡_}
+use mathlib.Core.Path.{_≡_, ap}
 use mathlib.Core.Logic.{_↔_, ⊎-elim}
-use mathlib.Core.Bool.{not}
+use mathlib.Core.Bool.{Bool, not, cond}
 use native.Mathlib.Omega.{arith}
 use native.Mathlib.Decide.{decLt}
-use lib.Dec.{T, leb, ltb, leb→le, le→leb, T-not, not-T}
+use lib.Dec.{T, leb, ltb, leb→le, le→leb, ltb→lt, lt→ltb, T-not, not-T}
 use Rattle.lists.proofs.BoolLaws.{T-dec, same-T, cond-upto}
 use Rattle.lists.proofs.BelowLaws.{any-i, first-passes, first-bound}
 use Rattle.bisimulation.specs.Systems.{View}
-use Rattle.bisimulation.specs.Maker.{matchesWithin, matched, distance}
+use Rattle.bisimulation.specs.Maker.{matchesWithin, matched, distance, matchRank}
 use Rattle.bisimulation.proofs.RunLaws.{matched-e}
 use Rattle.lengths.specs.Cells.{distanceAt}
-
--- ---- distances
 
 module _ (v : View) (j t : ℕ) where
   -- a step is matched exactly where its distance is below the number of the other's states
@@ -21,6 +19,14 @@ module _ (v : View) (j t : ℕ) where
   unfolding matched distance
   matched-distance =
       (λ h. matched-e v j t h .0, λ h. any-i (v .other .states) (λ k. matchesWithin v j k t) (distance v j t) h (first-passes (v .other .states) (λ k. matchesWithin v j k t) h))
+
+  pub matched-test : matched v j t ≡ ltb (distance v j t) (v .other .states)
+  matched-test = same-T _ _ (λ h. lt→ltb _ _ (matched-distance .0 h)) (λ h. matched-distance .1 (ltb→lt _ _ h))
+
+  -- the C rank that is written, by the distance alone
+  pub match-rank-distance : matchRank v j t ≡ cond (ltb (distance v j t) (v .other .states)) (distance v j t) 0
+  unfolding matchRank
+  match-rank-distance = ap (λ (b : Bool). cond b (distance v j t) 0) matched-test
 
   -- and unmatched where it is not
   pub unmatched-distance : leb (v .other .states) (distance v j t) ≡ not (matched v j t)

@@ -1,7 +1,7 @@
 -- What the two tables of lengths hold: match distances, and with the table of distances the theory's chain lengths. Assumes nothing.
 use Prim.Native.Nat.{ℕ, _+_, _*_, _^_, _≤_, _<_}
 use mathlib.Core.Path.{_≡_, refl, sym, ap, _∙_, fun-ext}
-use mathlib.Core.Bool.{Bool, true, false, not, cond, _&&_}
+use mathlib.Core.Bool.{Bool, true, false, not, cond, _&&_, and-true}
 use mathlib.Core.List.{List}
 use native.Mathlib.Omega.{arith}
 use lib.Dec.{leb}
@@ -21,7 +21,7 @@ use Rattle.lengths.specs.Side.{stepCount, wordOf, sideOf, Agrees}
 use Rattle.lengths.specs.Cells.{distanceAt}
 use Rattle.lengths.specs.Chains.{sideBy, chainBy}
 use Rattle.lengths.proofs.SideLaws.{steps-few, word-small}
-use Rattle.lengths.proofs.ChainLaws.{and-true, and-false-and}
+use Rattle.lengths.proofs.OpenStepLaws.{and-false-and}
 use Rattle.lengths.proofs.AgreementLaws.{chain-cong, distance-same, chain-same}
 use Rattle.lengths.proofs.DistanceLaws.{unmatched-distance}
 

@@ -5,4 +5,4 @@ pub mod DistanceLaws
 pub mod LengthTableLaws
 pub mod RelaxingLaws
 pub mod CellLaws
-pub mod ChainLaws
+pub mod OpenStepLaws

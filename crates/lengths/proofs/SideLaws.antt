@@ -1,6 +1,6 @@
 -- Laws of the view of a side: its steps are plain, its words have states below 64 only, and its steps lie in their part. Assumes nothing.
 use Prim.Native.Nat.{ℕ, _*_, _^_, _≤_, _<_}
-use mathlib.Core.Path.{_≡_, refl}
+use mathlib.Core.Path.{_≡_, refl, _∙_}
 use mathlib.Core.Bool.{Bool, true, false, cond}
 use mathlib.Core.List.{List}
 use native.Mathlib.Nat.{zero-lt-suc}
@@ -8,7 +8,9 @@ use native.Mathlib.Omega.{arith}
 use lib.Dec.{T, ltb}
 use lib.ListN.{length, getD}
 use borrow.Author.Tests.{ltb-true, lt-ltb, le-ltb}
+use Rattle.lists.specs.Lists.{tabulate}
 use Rattle.lists.proofs.BoolLaws.{false-not-T}
+use Rattle.lists.proofs.FillLaws.{getD-tabulate}
 use Rattle.words.specs.Bits.{hasBit}
 use Rattle.words.proofs.BitLaws.{has-lt, has-empty}
 use Rattle.bisimulation.specs.Systems.{Plain}
@@ -34,6 +36,9 @@ word-at words s h = simp (lt-ltb s 64 h)
 pub word-none : (words : List ℕ) (s : ℕ) → 64 ≤ s → wordOf words s ≡ 0
 unfolding wordOf
 word-none words s h = simp (le-ltb s 64 h)
+
+pub word-tabulate : (f : ℕ → ℕ) (s : ℕ) → s < 64 → wordOf (tabulate 64 f) s ≡ f s
+word-tabulate f s h = word-at (tabulate 64 f) s h ∙ getD-tabulate 64 s f h
 
 module _ (words : List ℕ) (word : (i : ℕ) → getD words i 0 < 2 ^ 64) where
   pub word-fits : (s : ℕ) → wordOf words s < 2 ^ 64

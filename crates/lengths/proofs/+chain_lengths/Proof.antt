@@ -1,6 +1,6 @@
 -- The proof of the cycle of calls {chain_lengths}: a round after the lengths for k - 1 gives those for k. The measure is k. Assumes nothing.
 use native.Mathlib.Nat.{pos-of-ne-zero}
-use Rattle.lengths.proofs.ChainLaws.{open-none, open-room, open-round}
+use Rattle.lengths.proofs.OpenStepLaws.{open-none, open-room, open-round}
 use Prim.Native.Nat.{ℕ, _<_, _-_, _+_}
 use native.Mathlib.Omega.{arith}
 use denote.Ref.{now}

@@ -1,6 +1,6 @@
 -- `lengths::chains_at` meets its contract: the chains of the open steps are those of the side. Assumes nothing.
 use Rattle.lengths.proofs.SideLaws.{steps-few}
-use Rattle.lengths.proofs.ChainLaws.{lent-ends, open-row}
+use Rattle.lengths.proofs.OpenStepLaws.{lent-ends, open-row}
 use Prim.Native.Nat.{_-_}
 use native.Mathlib.Omega.{arith}
 use denote.Ref.{now}

@@ -7,7 +7,7 @@ use Rattle.words.proofs.BitLaws.{has-lt}
 use Rattle.tables.specs.Table.{fromOf}
 use Rattle.lengths.specs.Side.{wordOf}
 use Rattle.lengths.proofs.SideLaws.{word-fits}
-use Rattle.lengths.proofs.ChainLaws.{open-far, open-apart, open-by}
+use Rattle.lengths.proofs.OpenStepLaws.{open-far, open-apart, open-by}
 use Prim.Native.Nat.{ℕ, _<_, _-_}
 use mathlib.Core.Path.{sym, ap, _∙_}
 use native.Mathlib.Omega.{arith}

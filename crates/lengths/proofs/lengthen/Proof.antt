@@ -5,7 +5,7 @@ use Rattle.tables.specs.Table.{fromOf, toOf}
 use Rattle.lengths.specs.Side.{stepCount}
 use Rattle.lengths.specs.OpenSteps.{longest}
 use Rattle.lengths.proofs.SideLaws.{steps-fit}
-use Rattle.lengths.proofs.ChainLaws.{longest-start, longest-raise, longest-stay}
+use Rattle.lengths.proofs.OpenStepLaws.{longest-start, longest-raise, longest-stay}
 use Prim.Native.Nat.{ℕ, _≤_, _<_, _-_, _+_, _*_}
 use mathlib.Core.Path.{_≡_, ap, _∙_}
 use mathlib.Core.Logic.{⊎-elim}

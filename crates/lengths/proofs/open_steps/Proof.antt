@@ -4,7 +4,7 @@ use Rattle.lengths.specs.Side.{stepCount}
 use Rattle.lengths.specs.Chains.{sideBy}
 use Rattle.lengths.specs.OpenSteps.{Open}
 use Rattle.lengths.proofs.SideLaws.{steps-fit, steps-few}
-use Rattle.lengths.proofs.ChainLaws.{open-start, open-keep, open-skip, open-ends}
+use Rattle.lengths.proofs.OpenStepLaws.{open-start, open-keep, open-skip, open-ends}
 use Prim.Native.Nat.{_≤_, _<_, _-_, _*_}
 use mathlib.Core.Path.{_≡_, refl}
 use mathlib.Core.Logic.{⊎-elim}

@@ -1,8 +1,8 @@
--- Laws of chains by a table: the open steps are kept one by one, one round over them gives the lengths for one step more, and with the table of match
--- distances the lengths are the theory's. Assumes nothing.
+-- Laws of the open steps: they are kept one by one, a round over them gives the chain lengths for one step more, and their chains are those of the side.
+-- The key idea: a step that is not open gives no state a length, so the greatest length over the kept steps is that over all steps. Assumes nothing.
 use Prim.Native.Nat.{ℕ, zero, suc, _+_, _*_, _-_, max, _≤_, _<_, zero-le}
 use mathlib.Core.Path.{_≡_, refl, sym, ap, ap₂, _∙_}
-use mathlib.Core.Bool.{Bool, true, false, not, cond, _&&_}
+use mathlib.Core.Bool.{Bool, true, false, cond, _&&_, and-true}
 use mathlib.Core.List.{List}
 use native.Mathlib.Nat.{not-suc-le-zero, zero-add}
 use native.Mathlib.Numerals.{sub-one}
@@ -78,10 +78,7 @@ longest-cong : (steps : List ℕ) (f g : ℕ → ℕ) (m s : ℕ) → ((j : ℕ)
 unfolding longest
 longest-cong steps f g m s h = most-cong m _ _ (λ j l. ap (λ (x : ℕ). cond (eqb (fromOf steps j) s) (suc x) 0) (h j l))
 
-pub and-true : (b : Bool) → (b && true) ≡ b
-and-true true = refl
-and-true false = refl
-
+-- false in the middle
 pub and-false-and : (a b : Bool) → (a && false && b) ≡ false
 and-false-and true b = refl
 and-false-and false b = refl
@@ -141,7 +138,7 @@ module _ (steps : List ℕ) (c a b : ℕ) (room : c * 2 + 1 < length steps) wher
       (ap₂ (λ (x y : ℕ). cond (eqb x s) (suc (lengths y)) 0) kept-from kept-to)
 
 module _ (v : View) (t : ℕ) where
-  open View v using (own, related)
+  open View v using (own)
 
   -- the length that step j gives s
   abbrev given : (ℕ → ℕ) → ℕ → ℕ → ℕ
