@@ -62,9 +62,10 @@ module _ (related own other : List ℕ) (n : ℕ) where
     table-chains k = ap (grid 64 64) (fun-ext (λ t. fun-ext (λ s. table-chain k t s)))
 
   -- for a view that agrees with the side, cell by cell
-  module _ (words : (i : ℕ) → getD related i 0 < 2 ^ 64) (v : View) (a : Agrees v side) where
+  module _ (v : View) (a : Agrees v side) where
     pub cell-distance : (j t : ℕ) → j < v .own .steps → t < 64 → byteAt table (j * 64 + t) ≡ distance v j t
     cell-distance j t h l = table-distance j t (rw (a .own-steps) at h) l ∙ sym (distance-same v side a j t)
 
-    pub cell-chain : (k t s : ℕ) → t < 64 → s < 64 → byteAt (grid 64 64 (chainBy related own table n k)) (t * 64 + s) ≡ chainLength v t k s
-    cell-chain k t s h l = getD-grid 64 64 (chainBy related own table n k) t s h l ∙ table-chain words k t s ∙ sym (chain-same v side a t k s)
+    pub cell-chain : ((i : ℕ) → getD related i 0 < 2 ^ 64) → (k t s : ℕ) → t < 64 → s < 64
+        → byteAt (grid 64 64 (chainBy related own table n k)) (t * 64 + s) ≡ chainLength v t k s
+    cell-chain words k t s h l = getD-grid 64 64 (chainBy related own table n k) t s h l ∙ table-chain words k t s ∙ sym (chain-same v side a t k s)
