@@ -143,16 +143,6 @@ pub fn step_distances(related: &[u64], own: &[u8], other: &[u8], n: u8, j: usize
     row
 }
 
-// The match distances of the own step j, and zeros past the last step.
-fn distance_row(related: &[u64], own: &[u8], other: &[u8], n: u8, j: usize) -> Lengths
-    ensures { λ r. ⌜ r .at ≡ tabulate 64 (distanceAt (sideOf (now (related .entry)) (now (own .entry)) (now (other .entry)) n) j) ⌝ }
-{
-    if step_count(own) <= j {
-        return Lengths { at: [0; 64] };
-    }
-    step_distances(related, own, other, n, j)
-}
-
 // Writes the lengths over a part of up to 64 bytes.
 fn put(lengths: Lengths, row: &mut [u8])
     requires { ⌜ length (now row) ≤ 64 ⌝ }
@@ -165,16 +155,17 @@ fn put(lengths: Lengths, row: &mut [u8])
     }
 }
 
-// The match distances of all own steps, row by row.
+// The match distances of all own steps, row by row. Past the last step the rows stay zeros.
 pub fn all_distances(related: &[u64], own: &[u8], other: &[u8], n: u8) -> Distances
     ensures { λ r. ⌜ r .at ≡ grid 256 64 (distanceAt (sideOf (now (related .entry)) (now (own .entry)) (now (other .entry)) n)) ⌝ }
 {
+    let count = step_count(own);
     let mut at = [0u8; 16384];
     let mut a: usize = 0;
     let mut j: usize = 0;
-    while j < 256 {
+    while j < count {
         let e = a + 64;
-        let row = distance_row(related, own, other, n, j);
+        let row = step_distances(related, own, other, n, j);
         put(row, &mut at[a..e]);
         a = e;
         j += 1;

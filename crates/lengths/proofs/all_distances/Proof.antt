@@ -1,29 +1,36 @@
--- `lengths::all_distances` meets its contract: the rows are lent one after the other, each as a part, and written. Assumes nothing.
-use Prim.Native.Nat.{ℕ, _≤_, _<_, _-_}
+-- `lengths::all_distances` meets its contract: the rows of the steps are lent one after the other, each as a part, and written; the others stay zeros. Assumes nothing.
+use Prim.Native.Nat.{ℕ, _+_, _*_, _≤_, _<_, _-_}
+use mathlib.Core.Path.{_≡_, sym, _∙_}
 use native.Mathlib.Omega.{arith}
-use lib.ListN.{replicate, length-replicate}
+use lib.ListN.{replicate, length-replicate, getD-replicate}
+use denote.Ref.{now}
 use borrow.Author.Needs.{needs}
-use Rattle.lists.proofs.FillLaws.{Rows, rows-none, rows-all}
-use Rattle.lengths.specs.Side.{sideOf}
+use Rattle.lists.proofs.FillLaws.{Rows, rows-none}
+use Rattle.lengths.specs.Side.{stepCount, sideOf}
 use Rattle.lengths.specs.Cells.{distanceAt}
-use Rattle.lengths.proofs.CellLaws.{rows-room, rows-part, rows-put}
+use Rattle.lengths.proofs.SideLaws.{steps-few}
+use Rattle.lengths.proofs.CellLaws.{distance-past, distances-at, rows-room, rows-part, rows-put, rows-rest}
 use Rattle.lengths.proofs.all_distances.Statement.{statement}
 use Rattle.lengths.proofs.all_distances.Tie as tie
 
 abbrev Inv-loop : tie.InvT-loop
-Inv-loop related own other n at₀ a₀ j₀ at a j = Rows j a 64 (distanceAt (sideOf related own other n)) (replicate 16384 0) at × (j ≤ 256)
+Inv-loop related own other n count at₀ a₀ j₀ at a j = Rows j a 64 (distanceAt (sideOf related own other n)) (replicate 16384 0) at × (j ≤ count) × (count ≡ stepCount own) × (count ≤ 256)
 
 abbrev μ-loop : tie.MeasureT-loop
-μ-loop related own other n at₀ a₀ j₀ at a j = 256 - j
+μ-loop related own other n count at₀ a₀ j₀ at a j = count - j
+
+step-count-requires : tie.Need-step-count-requires Inv-loop μ-loop
+step-count-requires c κs = search needs
 
 loop-holds : tie.Need-loop-holds Inv-loop μ-loop
-loop-holds c = (rows-none 64 _ (replicate 16384 0), omega arith)
+loop-holds c =
+    (rows-none 64 _ (replicate 16384 0), omega arith, c .step-count .ensures, omega (arith, c .step-count .ensures, steps-few (now (c .before .before .before .before .args .own))))
 
 add-e : tie.Need-add-e Inv-loop μ-loop
 add-e c = omega (arith, c .before .loop .inv .0 .at)
 
-distance-row-requires : tie.Need-distance-row-requires Inv-loop μ-loop
-distance-row-requires c κs = search needs
+step-distances-requires : tie.Need-step-distances-requires Inv-loop μ-loop
+step-distances-requires c κs = search needs
 
 sub-put : tie.Need-sub-put Inv-loop μ-loop
 sub-put c = search needs
@@ -32,11 +39,11 @@ part-at-start : tie.Need-part-at-start Inv-loop μ-loop
 part-at-start c = search needs
 
 part-at-end : tie.Need-part-at-end Inv-loop μ-loop
-part-at-end c = rows-room 256 (c .before .before .loop .inv .0) (length-replicate {A = ℕ} 16384 0) (omega (arith, c .before .loop-test .taken))
+part-at-end c = rows-room 256 (c .before .before .loop .inv .0) (length-replicate {A = ℕ} 16384 0) (omega (arith, c .before .before .loop .inv .3, c .before .loop-test .taken))
 
 put-requires : tie.Need-put-requires Inv-loop μ-loop
 put-requires c κs =
-    omega (arith, rows-part 256 (c .before .before .before .loop .inv .0) (length-replicate {A = ℕ} 16384 0) (omega (arith, c .before .before .loop-test .taken)))
+    omega (arith, rows-part 256 (c .before .before .before .loop .inv .0) (length-replicate {A = ℕ} 16384 0) (omega (arith, c .before .before .before .loop .inv .3, c .before .before .loop-test .taken)))
 
 add-j : tie.Need-add-j Inv-loop μ-loop
 add-j c = search needs
@@ -46,11 +53,22 @@ loop-less c = omega arith
 
 loop-again : tie.Need-loop-again Inv-loop μ-loop
 loop-again c =
-    let h : c .before .before .before .before .before .loop .j < 256 = omega (arith, c .before .before .before .before .loop-test .taken) in
-    (rows-put 256 (c .before .before .before .before .before .loop .inv .0) (length-replicate {A = ℕ} 16384 0) h (c .before .before .before .distance-row .ensures) (c .before .put .ensures), omega arith)
+    let a = c .before .before .before .before .before .before .before .before .before .before .args in
+    let l = c .before .before .before .before .before .loop in
+    let i = l .inv in
+    let h : l .j < 256 = omega (arith, i .3, c .before .before .before .before .loop-test .taken) in
+    let k : l .j < stepCount (now (a .own)) = omega (arith, i .2, c .before .before .before .before .loop-test .taken) in
+    (rows-put 256 (i .0) (length-replicate {A = ℕ} 16384 0) h (distances-at (sideOf (now (a .related)) (now (a .own)) (now (a .other)) (a .n)) (l .j) k (c .before .before .before .step-distances .ensures)) (c .before .put .ensures), omega (arith, c .before .before .before .before .loop-test .taken), i .2, i .3)
 
 returns : tie.Need-returns Inv-loop μ-loop
-returns c = rows-all 256 (c .before .loop .inv .0) (omega arith) (length-replicate {A = ℕ} 16384 0)
+returns c =
+    let l = c .before .loop in
+    let a = c .before .before .before .before .before .before .args in
+    rows-rest 256 (l .inv .0) (length-replicate {A = ℕ} 16384 0)
+    (λ j t p q h.
+    let past : stepCount (now (a .own)) ≤ j = omega (arith, l .inv .2, c .loop-test .left) in
+    let below : j * 64 + t < 16384 = omega arith in
+    getD-replicate 16384 (j * 64 + t) 0 0 below ∙ sym (distance-past (sideOf (now (a .related)) (now (a .own)) (now (a .other)) (a .n)) j t past))
 
 pub all-distances-spec : {M : Type 1} → statement M
 all-distances-spec =
@@ -58,9 +76,10 @@ all-distances-spec =
     (tie.spec
     Inv-loop
     μ-loop
+    step-count-requires
     loop-holds
     add-e
-    distance-row-requires
+    step-distances-requires
     sub-put
     part-at-start
     part-at-end
