@@ -7,9 +7,10 @@ use mathlib.Core.Logic.{_↔_}
 use mathlib.Core.List.{List}
 use native.Mathlib.Omega.{arith}
 use lib.ListN.{length, getD}
+use Rattle.lists.specs.Below.{IsFirstBelow}
 use Rattle.lists.specs.Numbers.{bigEndian}
 use Rattle.tables.specs.Conditions.{FirstApplies, NoneApplies}
-use Rattle.tables.proofs.TestLaws.{ltb-decides, eqb-decides, not-decides, first-decides}
+use Rattle.tables.proofs.TestLaws.{ltb-decides, eqb-decides, not-decides, first-decides, magic-decides}
 use Rattle.tables.proofs.CauseLaws.{Decided, decided-none, decided-test}
 use Rattle.certificates.specs.declared.Sizes.{Sizes}
 use Rattle.certificates.specs.declared.CertificateRefusal.{CertificateRefusal}
@@ -21,8 +22,8 @@ use Rattle.certificates.specs.declared.RelationRead.the-variants as draw
 use Rattle.certificates.specs.Layout.{certificateLength, rowsPart}
 use Rattle.certificates.specs.Certificate.{readHeader, readRows, withRows, readCertificate, readRelation}
 use Rattle.certificates.specs.CertificateAnswers.{certificateAnswer, relationAnswer}
-use Rattle.certificates.specs.CertificateConditions.{FirstWideRow, certificateCauses, relationCauses, certificateNumbers, relationNumbers}
-use Rattle.certificates.proofs.CertificateTestLaws.{magic-decides, sizes-decides, wide-decides}
+use Rattle.certificates.specs.CertificateConditions.{HasWideBit, certificateCauses, relationCauses, certificateNumbers, relationNumbers}
+use Rattle.certificates.proofs.CertificateTestLaws.{sizes-decides, wide-decides}
 use Rattle.tables.proofs.RefusalLaws.{TwoCases, RefusedAs, refused-as, first-found}
 use Rattle.tables.proofs.RefusalLaws as refusals
 
@@ -34,7 +35,7 @@ CertificateNumbered r k = (file : ℕ) → certificateAnswer r file .code ≡ k
 
 -- A refusal names what it should: 15 names the first such row.
 abbrev CertificateNames : Sizes → List ℕ → CertificateRefusal → Type 0
-CertificateNames z c (certificate.RowBit s) = FirstWideRow (rowsPart c z) (z .n1) (z .n2) s
+CertificateNames z c (certificate.RowBit s) = IsFirstBelow (z .n1) (HasWideBit (rowsPart c z) (z .n2)) s
 CertificateNames z c certificate.Short = Unit {0}
 CertificateNames z c certificate.Magic = Unit {0}
 CertificateNames z c certificate.Version = Unit {0}
@@ -56,7 +57,7 @@ module _ (z : Sizes) (c : List ℕ) where
   unfolding readCertificate readHeader readRows
   certificate-decided =
       decided-test (withRows c) (read.Refused certificate.Short) _ (ltb-decides (length c) 11) (λ t. refused-as certificate.Short (λ f. refl) tt)
-      (decided-test (withRows c) (read.Refused certificate.Magic) _ (not-decides (magic-decides c)) (λ t. refused-as certificate.Magic (λ f. refl) tt)
+      (decided-test (withRows c) (read.Refused certificate.Magic) _ (not-decides (magic-decides 0x43 c)) (λ t. refused-as certificate.Magic (λ f. refl) tt)
       (decided-test (withRows c) (read.Refused certificate.Version) _ (not-decides (eqb-decides (bigEndian c 3 2) 1))
       (λ t. refused-as certificate.Version (λ f. refl) tt)
       (decided-test (withRows c) (read.Refused certificate.Sizes) _ (not-decides (sizes-decides z c)) (λ t. refused-as certificate.Sizes (λ f. refl) tt)
@@ -84,7 +85,7 @@ module _ (z : Sizes) (c : List ℕ) where
   certificate-good-iff = refusals.good-iff-none certificate-cases certificate-decided
 
   -- 15 names the first such row
-  pub certificate-row-first : {s : ℕ} → readCertificate z c ≡ read.Refused (certificate.RowBit s) → FirstWideRow (rowsPart c z) (z .n1) (z .n2) s
+  pub certificate-row-first : {s : ℕ} → readCertificate z c ≡ read.Refused (certificate.RowBit s) → IsFirstBelow (z .n1) (HasWideBit (rowsPart c z) (z .n2)) s
   certificate-row-first e = refusals.refused-names certificate-cases certificate-decided e
 
 -- ---- the relation reader
@@ -93,7 +94,7 @@ abbrev RelationNumbered : RelationRefusal → ℕ → Type 0
 RelationNumbered r k = (file : ℕ) → relationAnswer r file .code ≡ k
 
 abbrev RelationNames : Sizes → List ℕ → RelationRefusal → Type 0
-RelationNames z r (relation.RowBit s) = FirstWideRow r (z .n1) (z .n2) s
+RelationNames z r (relation.RowBit s) = IsFirstBelow (z .n1) (HasWideBit r (z .n2)) s
 RelationNames z r relation.Length = Unit {0}
 
 relation-cases : TwoCases drawn.Good drawn.Refused
@@ -133,5 +134,5 @@ module _ (z : Sizes) (r : List ℕ) where
   relation-good-iff = refusals.good-iff-none relation-cases relation-decided
 
   -- 15 names the first such row
-  pub relation-row-first : {s : ℕ} → readRelation z r ≡ drawn.Refused (relation.RowBit s) → FirstWideRow r (z .n1) (z .n2) s
+  pub relation-row-first : {s : ℕ} → readRelation z r ≡ drawn.Refused (relation.RowBit s) → IsFirstBelow (z .n1) (HasWideBit r (z .n2)) s
   relation-row-first e = refusals.refused-names relation-cases relation-decided e

@@ -8,13 +8,8 @@ use Rattle.words.specs.Bits.{hasBit, hasFrom}
 use Rattle.tables.proofs.TestLaws.{Decides, decides-as, eqb-decides, leb-decides, and-decides, any-decides}
 use Rattle.certificates.specs.declared.Sizes.{Sizes}
 use Rattle.certificates.specs.Layout.{rowOf}
-use Rattle.certificates.specs.Certificate.{certificateMagicFits, certificateSizesFit, wideRow}
-use Rattle.certificates.specs.CertificateConditions.{MagicFits, SizesFit, HasWideBit}
-
-pub magic-decides : (c : List ℕ) → Decides (certificateMagicFits c) (MagicFits c)
-unfolding certificateMagicFits
-magic-decides c =
-    decides-as (and-decides (and-decides (eqb-decides _ _) (eqb-decides _ _)) (eqb-decides _ _)) (λ p. (p .0 .0, p .0 .1, p .1)) (λ p. ((p .0, p .1), p .2))
+use Rattle.certificates.specs.Certificate.{certificateSizesFit, wideRow}
+use Rattle.certificates.specs.CertificateConditions.{SizesFit, HasWideBit}
 
 pub sizes-decides : (z : Sizes) (c : List ℕ) → Decides (certificateSizesFit z c) (SizesFit z c)
 unfolding certificateSizesFit

@@ -7,7 +7,8 @@ use lib.ListN.{length}
 use Rattle.lists.specs.Below.{firstBelow}
 use Rattle.lists.specs.Numbers.{byteAt, bigEndian}
 use Rattle.words.specs.Bits.{hasFrom}
-use Rattle.certificates.specs.Layout.{certificateLength, rowsPart, rowOf}
+use Rattle.tables.specs.Table.{magicFits}
+use Rattle.certificates.specs.Layout.{certificateHeaderLength, rowLength, certificateLength, rowsPart, rowOf}
 use Rattle.certificates.specs.declared.Sizes.{Sizes}
 use Rattle.certificates.specs.declared.CertificateRefusal.the-variants as certificate
 use Rattle.certificates.specs.declared.CertificateRead.{CertificateRead}
@@ -16,20 +17,16 @@ use Rattle.certificates.specs.declared.RelationRefusal.the-variants as r
 use Rattle.certificates.specs.declared.RelationRead.{RelationRead}
 use Rattle.certificates.specs.declared.RelationRead.the-variants as drawn
 
--- Bytes 0 to 2: "TPC".
-unfoldable pub certificateMagicFits : List ℕ → Bool
-certificateMagicFits c = eqb (byteAt c 0) 0x54 && eqb (byteAt c 1) 0x50 && eqb (byteAt c 2) 0x43
-
 -- Bytes 5 and 6, then 7, 8 and 9, 10: the tables' sizes.
 unfoldable pub certificateSizesFit : Sizes → List ℕ → Bool
 certificateSizesFit z c =
     eqb (byteAt c 5) (z .n1) && eqb (byteAt c 6) (z .n2) && eqb (bigEndian c 7 2) (z .m1) && eqb (bigEndian c 9 2) (z .m2)
 
--- Causes 10 to 14: the first that applies, or the sizes.
+-- Causes 10 to 14: the first that applies, or the sizes. Bytes 0 to 2 are "TPC".
 unfoldable pub readHeader : Sizes → List ℕ → CertificateRead
 readHeader z c =
-    cond (ltb (length c) 11) (read.Refused certificate.Short)
-    (cond (not (certificateMagicFits c)) (read.Refused certificate.Magic)
+    cond (ltb (length c) certificateHeaderLength) (read.Refused certificate.Short)
+    (cond (not (magicFits 0x43 c)) (read.Refused certificate.Magic)
     (cond (not (eqb (bigEndian c 3 2) 1)) (read.Refused certificate.Version)
     (cond (not (certificateSizesFit z c)) (read.Refused certificate.Sizes)
     (cond (not (eqb (length c) (certificateLength z))) (read.Refused certificate.Length)
@@ -58,6 +55,6 @@ readCertificate z c = withRows c (readHeader z c)
 unfoldable pub readRelation : Sizes → List ℕ → RelationRead
 readRelation z r =
     let wide = firstBelow (z .n1) (wideRow r (z .n2)) in
-    cond (not (eqb (length r) (8 * z .n1))) (drawn.Refused relation.Length)
+    cond (not (eqb (length r) (rowLength * z .n1))) (drawn.Refused relation.Length)
     (cond (ltb wide (z .n1)) (drawn.Refused (relation.RowBit wide))
     (drawn.Good z))

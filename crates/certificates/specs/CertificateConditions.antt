@@ -6,12 +6,9 @@ use lib.Dec.{T}
 use lib.ListN.{length}
 use Rattle.lists.specs.Numbers.{byteAt, bigEndian}
 use Rattle.words.specs.Bits.{hasBit}
-use Rattle.certificates.specs.Layout.{certificateLength, rowsPart, rowOf}
+use Rattle.tables.specs.Conditions.{MagicFits}
+use Rattle.certificates.specs.Layout.{certificateHeaderLength, rowLength, certificateLength, rowsPart, rowOf}
 use Rattle.certificates.specs.declared.Sizes.{Sizes}
-
--- Bytes 0 to 2 are "TPC".
-abbrev pub MagicFits : List ℕ → Type 0
-MagicFits c = (byteAt c 0 ≡ 0x54) × (byteAt c 1 ≡ 0x50) × (byteAt c 2 ≡ 0x43)
 
 -- The four sizes are the tables'.
 abbrev pub SizesFit : Sizes → List ℕ → Type 0
@@ -21,17 +18,13 @@ SizesFit z c = (byteAt c 5 ≡ z .n1) × (byteAt c 6 ≡ z .n2) × (bigEndian c 
 abbrev pub HasWideBit : List ℕ → ℕ → ℕ → Type 0
 HasWideBit rows n2 s = (t : ℕ) × (t < 64) × (n2 ≤ t) × T (hasBit (rowOf rows s) t)
 
--- Of n1 rows, row s is the first that has a bit n2 or more.
-abbrev pub FirstWideRow : List ℕ → ℕ → ℕ → ℕ → Type 0
-FirstWideRow rows n1 n2 s = (s < n1) × HasWideBit rows n2 s × ((i : ℕ) → i < s → HasWideBit rows n2 i → ⊥)
-
 -- The causes that turn a certificate away, in the order of their numbers, 10 to 15.
 abbrev pub certificateCauses : Sizes → List ℕ → List (Type 0)
 certificateCauses z c =
     -- 10: certificate under 11 bytes
-    (length c < 11)
-    -- 11: its first three bytes
-    ∷ (¬ MagicFits c)
+    (length c < certificateHeaderLength)
+    -- 11: its first three bytes, "TPC"
+    ∷ (¬ MagicFits 0x43 c)
     -- 12: its version not 1
     ∷ (¬ (bigEndian c 3 2 ≡ 1))
     -- 13: a size unlike the tables'
@@ -46,7 +39,7 @@ certificateCauses z c =
 abbrev pub relationCauses : Sizes → List ℕ → List (Type 0)
 relationCauses z r =
     -- 20: relation not 8 n1 bytes
-    (¬ (length r ≡ 8 * z .n1))
+    (¬ (length r ≡ rowLength * z .n1))
     -- 15: row bit n2 or more
     ∷ ((s : ℕ) × (s < z .n1) × HasWideBit r (z .n2) s)
     ∷ []

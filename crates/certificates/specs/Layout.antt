@@ -6,29 +6,36 @@ use Rattle.lists.specs.Numbers.{bigEndian}
 use Rattle.tables.specs.Table.{statesOf, stepsOf}
 use Rattle.certificates.specs.declared.Sizes.{Sizes}
 
+-- The bytes of the header and of a row.
+abbrev pub certificateHeaderLength : ℕ
+certificateHeaderLength = 11
+
+abbrev pub rowLength : ℕ
+rowLength = 8
+
 -- The sizes that the headers of two tables give.
 unfoldable pub sizesOf : List ℕ → List ℕ → Sizes
 sizesOf left right = record { n1 = statesOf left; n2 = statesOf right; m1 = stepsOf left; m2 = stepsOf right }
 
 -- Length L = 11 + 8 n1 + 2 n1 n2 + m1 n2 + m2 n1.
 unfoldable pub certificateLength : Sizes → ℕ
-certificateLength z = 11 + 8 * z .n1 + 2 * (z .n1 * z .n2) + z .m1 * z .n2 + z .m2 * z .n1
+certificateLength z = certificateHeaderLength + rowLength * z .n1 + 2 * (z .n1 * z .n2) + z .m1 * z .n2 + z .m2 * z .n1
 
 -- Where the rows begin, and the runs AL, AR, CL and CR after them: n1 rows of 8 bytes; n1 times n2 bytes; n2 times n1; m1 times n2; m2 times n1.
 unfoldable pub rowsAt : Sizes → ℕ
-rowsAt z = 11
+rowsAt z = certificateHeaderLength
 
 unfoldable pub alAt : Sizes → ℕ
-alAt z = 11 + 8 * z .n1
+alAt z = certificateHeaderLength + rowLength * z .n1
 
 unfoldable pub arAt : Sizes → ℕ
-arAt z = 11 + 8 * z .n1 + z .n1 * z .n2
+arAt z = certificateHeaderLength + rowLength * z .n1 + z .n1 * z .n2
 
 unfoldable pub clAt : Sizes → ℕ
-clAt z = 11 + 8 * z .n1 + 2 * (z .n1 * z .n2)
+clAt z = certificateHeaderLength + rowLength * z .n1 + 2 * (z .n1 * z .n2)
 
 unfoldable pub crAt : Sizes → ℕ
-crAt z = 11 + 8 * z .n1 + 2 * (z .n1 * z .n2) + z .m1 * z .n2
+crAt z = certificateHeaderLength + rowLength * z .n1 + 2 * (z .n1 * z .n2) + z .m1 * z .n2
 
 -- The rows, as the part of the certificate that holds them.
 unfoldable pub rowsPart : List ℕ → Sizes → List ℕ
@@ -36,4 +43,4 @@ rowsPart c z = part c (rowsAt z) (alAt z)
 
 -- Row s, a word of 64 bits, of the part that holds the rows.
 unfoldable pub rowOf : List ℕ → ℕ → ℕ
-rowOf rows s = bigEndian rows (s * 8) 8
+rowOf rows s = bigEndian rows (s * rowLength) rowLength

@@ -8,7 +8,7 @@ use words::Row;
 ghost use mathlib.Core.Path.{_≡_};
 ghost use Rattle.lists.specs.Below.{firstBelow};
 ghost use Rattle.certificates.specs.Layout.{sizesOf, certificateLength, rowsAt, alAt, arAt, clAt, crAt, rowsPart, rowOf};
-ghost use Rattle.certificates.specs.Certificate.{certificateMagicFits, certificateSizesFit, wideRow, readHeader, readCertificate, readRelation};
+ghost use Rattle.certificates.specs.Certificate.{certificateSizesFit, wideRow, readHeader, readCertificate, readRelation};
 ghost use Rattle.certificates.specs.CertificateAnswers.{certificateAnswer, relationAnswer};
 
 // The sizes of two tables, as a certificate's header has them: states left and right, steps left and right.
@@ -203,19 +203,6 @@ fn first_wide_row(rows: &[u8], n1: usize, n2: usize) -> usize
     n1
 }
 
-// Whether the first three bytes are "TPC".
-fn magic_fits(certificate: &[u8]) -> bool
-    ensures { λ r. ⌜ r ≡ certificateMagicFits (now (certificate .entry)) ⌝ }
-{
-    if byte(certificate, 0) != 0x54 {
-        return false;
-    }
-    if byte(certificate, 1) != 0x50 {
-        return false;
-    }
-    byte(certificate, 2) == 0x43
-}
-
 // Whether the header has these sizes.
 fn sizes_fit(certificate: &[u8], sizes: Sizes) -> bool
     ensures { λ r. ⌜ r ≡ certificateSizesFit sizes (now (certificate .entry)) ⌝ }
@@ -239,7 +226,7 @@ fn read_header(certificate: &[u8], sizes: Sizes) -> CertificateRead
     if certificate.len() < Sizes::HEADER {
         return CertificateRead::Refused(CertificateRefusal::Short);
     }
-    if !magic_fits(certificate) {
+    if !tables::magic_fits(certificate, 0x43) {
         return CertificateRead::Refused(CertificateRefusal::Magic);
     }
     if read_be16(certificate, 3) != Sizes::VERSION {

@@ -7,13 +7,14 @@ use mathlib.Core.Logic.{_↔_}
 use mathlib.Core.List.{List}
 use native.Mathlib.Omega.{arith}
 use lib.ListN.{length}
+use Rattle.lists.specs.Below.{IsFirstBelow}
 use Rattle.tables.specs.declared.Head.{Head}
 use Rattle.tables.specs.declared.TableRefusal.{TableRefusal}
 use Rattle.tables.specs.declared.TableRefusal.the-variants.{Short, Magic, Version, States, Start, Steps, Length, StepEnd, Doubled}
 use Rattle.tables.specs.declared.TableRead.the-variants.{Good, Refused}
-use Rattle.tables.specs.Table.{versionOf, statesOf, startOf, stepsOf, tableLength, stepsPart, headOf, endsOutside, doubled, readHead, readSteps, withSteps, readTable}
+use Rattle.tables.specs.Table.{versionOf, statesOf, startOf, stepsOf, tableLength, stepsPart, headOf, endsOutside, doubled, readSizes, readHeader, readSteps, withSteps, readTable}
 use Rattle.tables.specs.Answers.{tableAnswer}
-use Rattle.tables.specs.Conditions.{FirstApplies, NoneApplies, EndOutside, EqualsEarlier, FirstStep, tableCauses}
+use Rattle.tables.specs.Conditions.{FirstApplies, NoneApplies, EndOutside, EqualsEarlier, tableCauses}
 use Rattle.tables.proofs.TestLaws.{Decides, ltb-decides, leb-decides, eqb-decides, not-decides, first-decides, magic-decides, states-decides, outside-decides, doubled-decides}
 use Rattle.tables.proofs.CauseLaws.{Decided, decided-none, decided-later, decided-test}
 use Rattle.tables.proofs.RefusalLaws.{TwoCases, RefusedAs, refused-as, first-found}
@@ -25,8 +26,8 @@ Numbered r k = (file : ℕ) → tableAnswer r file .code ≡ k
 
 -- A refusal names what it should: 8 and 9 name the first such step.
 abbrev Names : List ℕ → TableRefusal → Type 0
-Names s (StepEnd j) = FirstStep s (EndOutside s) j
-Names s (Doubled j) = FirstStep s (EqualsEarlier s) j
+Names s (StepEnd j) = IsFirstBelow (stepsOf s) (EndOutside s) j
+Names s (Doubled j) = IsFirstBelow (stepsOf s) (EqualsEarlier s) j
 Names s Short = Unit {0}
 Names s Magic = Unit {0}
 Names s Version = Unit {0}
@@ -52,11 +53,11 @@ module _ (s : List ℕ) where
 
   -- the reader gives the header where no cause applies, and the refusal of the first that does
   decided : Decided (λ x. x ≡ Good (headOf s)) (RefusedAs Refused Numbered (Names s)) (λ i. i) (tableCauses s) (readTable s)
-  unfolding readTable readHead readSteps
+  unfolding readTable readHeader readSizes readSteps
   decided =
       decided-later (λ h. h)
       (decided-test (withSteps s) (Refused Short) _ (ltb-decides (length s) 9) (λ t. refused-as Short (λ f. refl) tt)
-      (decided-test (withSteps s) (Refused Magic) _ (not-decides (magic-decides s)) (λ t. refused-as Magic (λ f. refl) tt)
+      (decided-test (withSteps s) (Refused Magic) _ (not-decides (magic-decides 0x54 s)) (λ t. refused-as Magic (λ f. refl) tt)
       (decided-test (withSteps s) (Refused Version) _ (not-decides (eqb-decides (versionOf s) 1)) (λ t. refused-as Version (λ f. refl) tt)
       (decided-test (withSteps s) (Refused States) _ (not-decides (states-decides s)) (λ t. refused-as States (λ f. refl) tt)
       (decided-test (withSteps s) (Refused Start) _ (leb-decides (statesOf s) (startOf s)) (λ t. refused-as Start (λ f. refl) tt)
@@ -85,8 +86,8 @@ module _ (s : List ℕ) where
   good-iff-none = refusals.good-iff-none table-cases decided
 
   -- the refusals 8 and 9 name the first such step
-  pub end-outside-first : {j : ℕ} → readTable s ≡ Refused (StepEnd j) → FirstStep s (EndOutside s) j
+  pub end-outside-first : {j : ℕ} → readTable s ≡ Refused (StepEnd j) → IsFirstBelow (stepsOf s) (EndOutside s) j
   end-outside-first e = refusals.refused-names table-cases decided e
 
-  pub doubled-first : {j : ℕ} → readTable s ≡ Refused (Doubled j) → FirstStep s (EqualsEarlier s) j
+  pub doubled-first : {j : ℕ} → readTable s ≡ Refused (Doubled j) → IsFirstBelow (stepsOf s) (EqualsEarlier s) j
   doubled-first e = refusals.refused-names table-cases decided e

@@ -1,13 +1,13 @@
 -- Laws of a reader whose result is decided by a list of causes: it refuses with the number of the first that applies, and reads where none does.
 -- They are stated once, over any result with the two cases good and refused, and each reader cites them. Assumes nothing.
-use Prim.Native.Nat.{ℕ, _<_}
+use Prim.Native.Nat.{ℕ}
 use mathlib.Core.Path.{_≡_, refl, sym, subst, _∙_}
 use mathlib.Core.Logic.{_↔_}
 use mathlib.Core.Bool.{Bool}
 use mathlib.Core.List.{List}
 use lib.Dec.{T, ltb, ltb→lt}
-use Rattle.lists.specs.Below.{firstBelow}
-use Rattle.lists.proofs.BelowLaws.{first-passes, first-least}
+use Rattle.lists.specs.Below.{firstBelow, IsFirstBelow}
+use Rattle.lists.proofs.BelowLaws.{first-found-below}
 use Rattle.tables.specs.Conditions.{FirstApplies, NoneApplies}
 use Rattle.tables.proofs.TestLaws.{Decides}
 use Rattle.tables.proofs.CauseLaws.{first-unique, Decided, accepted, refused}
@@ -71,7 +71,7 @@ module _ {A R X : Type 0} {good : A → X} {refuse : R → X} {Numbered : R → 
 
 -- a search for a first index finds the least that has the property
 pub first-found : (n : ℕ) {f : ℕ → Bool} {P : ℕ → Type 0} → ((i : ℕ) → Decides (f i) (P i)) → T (ltb (firstBelow n f) n)
-    → (firstBelow n f < n) × P (firstBelow n f) × ((i : ℕ) → i < firstBelow n f → P i → ⊥)
+    → IsFirstBelow n P (firstBelow n f)
 first-found n {f} each t =
-    let l = ltb→lt _ n t in
-    (l, each _ .sound (first-passes n f l), λ i b p. first-least n f i b (each i .complete p))
+    let r = first-found-below n f (ltb→lt _ n t) in
+    (r .0, each _ .sound (r .1), λ i b p. r .2 i b (each i .complete p))

@@ -7,10 +7,10 @@ use mathlib.Core.List.{List}
 use native.Mathlib.Omega.{arith}
 use lib.Dec.{T, T-not, not-T, ltb, leb, eqb, ltb→lt, lt→ltb, leb→le, le→leb, eqb→eq}
 use Rattle.lists.specs.Below.{anyBelow, firstBelow}
-use Rattle.lists.specs.Numbers.{byteAt}
 use Rattle.lists.proofs.BoolLaws.{and-l, and-r, and-i, or-e, or-l, or-r, eq→eqb, T-dec, T-true, not-T-false}
 use Rattle.lists.proofs.BelowLaws.{any-e, any-i, first-le, first-passes}
 use Rattle.tables.specs.Table.{magicFits, statesOf, statesFit, fromOf, toOf, endsOutside, sameStep, doubled}
+use Rattle.tables.specs.Conditions.{MagicFits}
 
 -- The test passes exactly where P holds.
 pub record Decides (test : Bool) (P : Type 0) : Type 0 where
@@ -88,9 +88,9 @@ module _ (n : ℕ) {f : ℕ → Bool} {P : ℕ → Type 0} (each : (i : ℕ) →
 
 -- ---- the tests of a table
 
-pub magic-decides : (s : List ℕ) → Decides (magicFits s) ((byteAt s 0 ≡ 0x54) × (byteAt s 1 ≡ 0x50) × (byteAt s 2 ≡ 0x54))
+pub magic-decides : (third : ℕ) (s : List ℕ) → Decides (magicFits third s) (MagicFits third s)
 unfolding magicFits
-magic-decides s =
+magic-decides third s =
     decides-as (and-decides (and-decides (eqb-decides _ _) (eqb-decides _ _)) (eqb-decides _ _))
     (λ p. (p .0 .0, p .0 .1, p .1)) (λ p. ((p .0, p .1), p .2))
 

@@ -16,6 +16,10 @@ pub record FirstApplies (causes : List (Type 0)) (k : ℕ) : Type 0 where
 abbrev pub NoneApplies : List (Type 0) → Type 0
 NoneApplies causes = (i : ℕ) → getD causes i ⊥ → ⊥
 
+-- Bytes 0 to 2 are "TP" and this third one.
+abbrev pub MagicFits : ℕ → List ℕ → Type 0
+MagicFits third s = (byteAt s 0 ≡ 0x54) × (byteAt s 1 ≡ 0x50) × (byteAt s 2 ≡ third)
+
 -- An end of step j is n or more.
 abbrev pub EndOutside : List ℕ → ℕ → Type 0
 EndOutside s j = (statesOf s ≤ fromOf (stepsPart s) j) ⊎ (statesOf s ≤ toOf (stepsPart s) j)
@@ -24,10 +28,6 @@ EndOutside s j = (statesOf s ≤ fromOf (stepsPart s) j) ⊎ (statesOf s ≤ toO
 abbrev pub EqualsEarlier : List ℕ → ℕ → Type 0
 EqualsEarlier s j = (i : ℕ) × (i < j) × (fromOf (stepsPart s) i ≡ fromOf (stepsPart s) j) × (toOf (stepsPart s) i ≡ toOf (stepsPart s) j)
 
--- Step j is the first of the table's steps that has the property.
-abbrev pub FirstStep : List ℕ → (ℕ → Type 0) → ℕ → Type 0
-FirstStep s P j = (j < stepsOf s) × P j × ((i : ℕ) → i < j → P i → ⊥)
-
 -- The causes that turn a table away, in the order of their numbers; there is none with the number 0.
 abbrev pub tableCauses : List ℕ → List (Type 0)
 tableCauses s =
@@ -35,7 +35,7 @@ tableCauses s =
     -- 1: table under 9 bytes
     ∷ (length s < 9)
     -- 2: first three bytes
-    ∷ (¬ ((byteAt s 0 ≡ 0x54) × (byteAt s 1 ≡ 0x50) × (byteAt s 2 ≡ 0x54)))
+    ∷ (¬ MagicFits 0x54 s)
     -- 3: version not 1
     ∷ (¬ (versionOf s ≡ 1))
     -- 4: n not 1 to 64

@@ -25,9 +25,9 @@ maxStates = 64
 abbrev pub maxSteps : ℕ
 maxSteps = 256
 
--- Bytes 0 to 2: "TPT".
-unfoldable pub magicFits : List ℕ → Bool
-magicFits s = eqb (byteAt s 0) 0x54 && eqb (byteAt s 1) 0x50 && eqb (byteAt s 2) 0x54
+-- Bytes 0 to 2: "TP" and a third, which is "T" for a table.
+unfoldable pub magicFits : ℕ → List ℕ → Bool
+magicFits third s = eqb (byteAt s 0) 0x54 && eqb (byteAt s 1) 0x50 && eqb (byteAt s 2) third
 
 -- Bytes 3, 4: version.
 unfoldable pub versionOf : List ℕ → ℕ
@@ -100,17 +100,22 @@ doubled steps j = anyBelow j (sameStep steps j)
 abbrev pub headOf : List ℕ → Head
 headOf s = record { version = versionOf s; states = statesOf s; steps = stepsOf s; initial = record { 0 = initialOf s } }
 
--- Causes 1 to 7: the first that applies, or the header.
-unfoldable pub readHead : List ℕ → TableRead
-readHead s =
-    cond (ltb (length s) headerLength) (Refused Short)
-    (cond (not (magicFits s)) (Refused Magic)
-    (cond (not (eqb (versionOf s) 1)) (Refused Version)
-    (cond (not (statesFit s)) (Refused States)
+-- Causes 4 to 7: the first that applies, or the header.
+unfoldable pub readSizes : List ℕ → TableRead
+readSizes s =
+    cond (not (statesFit s)) (Refused States)
     (cond (leb (statesOf s) (startOf s)) (Refused Start)
     (cond (ltb maxSteps (stepsOf s)) (Refused Steps)
     (cond (not (eqb (length s) (tableLength (statesOf s) (stepsOf s)))) (Refused Length)
-    (Good (headOf s))))))))
+    (Good (headOf s)))))
+
+-- Causes 1 to 3, then 4 to 7.
+unfoldable pub readHeader : List ℕ → TableRead
+readHeader s =
+    cond (ltb (length s) headerLength) (Refused Short)
+    (cond (not (magicFits 0x54 s)) (Refused Magic)
+    (cond (not (eqb (versionOf s) 1)) (Refused Version)
+    (readSizes s)))
 
 -- Causes 8 and 9 of a table whose header is good: the first step with an end outside, then the first that equals an earlier one.
 unfoldable pub readSteps : Head → List ℕ → TableRead
@@ -128,4 +133,4 @@ withSteps s (Refused r) = Refused r
 
 -- What reading a table gives: a header, or the refusal.
 unfoldable pub readTable : List ℕ → TableRead
-readTable s = withSteps s (readHead s)
+readTable s = withSteps s (readHeader s)

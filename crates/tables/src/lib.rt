@@ -6,7 +6,7 @@ use words::Row;
 ghost use mathlib.Core.Path.{_≡_};
 ghost use Prim.Native.Nat.{_<_};
 ghost use Rattle.lists.specs.Below.{firstBelow};
-ghost use Rattle.tables.specs.Table.{statesOf, stepsOf, readHead, readTable, labelsPart, stepsPart, labelOf, fromOf, toOf, endsOutside, doubled};
+ghost use Rattle.tables.specs.Table.{magicFits, statesOf, stepsOf, headOf, readSizes, readHeader, readTable, labelsPart, stepsPart, labelOf, fromOf, toOf, endsOutside, doubled};
 ghost use Rattle.tables.specs.Answers.{tableAnswer};
 
 // What the header of a good table says; `initial` is the set of initial states.
@@ -161,26 +161,37 @@ pub fn to(steps: &[u8], j: usize) -> usize
     byte(steps, j * 2 + 1)
 }
 
-// Causes 1 to 7.
-fn read_head(s: &[u8]) -> TableRead
-    ensures { λ r. ⌜ r ≡ readHead (now (s .entry)) ⌝ }
+// Whether the first three bytes are "TP" and this third one.
+pub fn magic_fits(s: &[u8], third: usize) -> bool
+    ensures { λ r. ⌜ r ≡ magicFits third (now (s .entry)) ⌝ }
 {
-    if s.len() < Head::BYTES {
-        return TableRead::Refused(TableRefusal::Short);
-    }
     if byte(s, 0) != 0x54 {
-        return TableRead::Refused(TableRefusal::Magic);
+        return false;
     }
     if byte(s, 1) != 0x50 {
-        return TableRead::Refused(TableRefusal::Magic);
+        return false;
     }
-    if byte(s, 2) != 0x54 {
-        return TableRead::Refused(TableRefusal::Magic);
+    byte(s, 2) == third
+}
+
+// What the header says.
+fn head_of(s: &[u8]) -> Head
+    ensures { λ r. ⌜ r ≡ headOf (now (s .entry)) ⌝ }
+{
+    let none = Row::empty();
+    let initial = none.add(byte(s, 6));
+    Head {
+        version: read_be16(s, 3) as usize,
+        states: states(s),
+        steps: step_count(s),
+        initial,
     }
-    let version = read_be16(s, 3);
-    if version != Head::VERSION {
-        return TableRead::Refused(TableRefusal::Version);
-    }
+}
+
+// Causes 4 to 7.
+fn read_sizes(s: &[u8]) -> TableRead
+    ensures { λ r. ⌜ r ≡ readSizes (now (s .entry)) ⌝ }
+{
     let n = states(s);
     if n < 1 {
         return TableRead::Refused(TableRefusal::States);
@@ -188,8 +199,7 @@ fn read_head(s: &[u8]) -> TableRead
     if Head::MAX_STATES < n {
         return TableRead::Refused(TableRefusal::States);
     }
-    let start = byte(s, 6);
-    if n <= start {
+    if n <= byte(s, 6) {
         return TableRead::Refused(TableRefusal::Start);
     }
     let m = step_count(s);
@@ -199,14 +209,23 @@ fn read_head(s: &[u8]) -> TableRead
     if s.len() != Head::BYTES + n * 2 + m * 2 {
         return TableRead::Refused(TableRefusal::Length);
     }
-    let none = Row::empty();
-    let initial = none.add(start);
-    TableRead::Good(Head {
-        version: version as usize,
-        states: n,
-        steps: m,
-        initial,
-    })
+    TableRead::Good(head_of(s))
+}
+
+// Causes 1 to 3, then 4 to 7.
+fn read_header(s: &[u8]) -> TableRead
+    ensures { λ r. ⌜ r ≡ readHeader (now (s .entry)) ⌝ }
+{
+    if s.len() < Head::BYTES {
+        return TableRead::Refused(TableRefusal::Short);
+    }
+    if !magic_fits(s, 0x54) {
+        return TableRead::Refused(TableRefusal::Magic);
+    }
+    if read_be16(s, 3) != Head::VERSION {
+        return TableRead::Refused(TableRefusal::Version);
+    }
+    read_sizes(s)
 }
 
 // The first of m steps with an end of n or more, and m where there is none.
@@ -260,7 +279,7 @@ fn first_doubled(steps: &[u8], m: usize) -> usize
 pub fn read_table(s: &[u8]) -> TableRead
     ensures { λ r. ⌜ r ≡ readTable (now (s .entry)) ⌝ }
 {
-    let read = read_head(s);
+    let read = read_header(s);
     let TableRead::Good(head) = read else {
         return read;
     };

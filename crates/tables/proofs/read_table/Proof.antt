@@ -10,19 +10,19 @@ use Rattle.tables.specs.declared.Head.{Head}
 use Rattle.tables.specs.declared.TableRead.{TableRead}
 use Rattle.tables.specs.declared.TableRead.the-variants.{Good, Refused}
 use Rattle.tables.specs.declared.TableRefusal.the-variants.{StepEnd, Doubled}
-use Rattle.tables.specs.Table.{readTable, readHead, readSteps, withSteps, endsOutside, doubled}
+use Rattle.tables.specs.Table.{readTable, readHeader, readSteps, withSteps, endsOutside, doubled}
 use Rattle.tables.proofs.read_table.Statement.{statement}
 use Rattle.tables.proofs.read_table.Tie as tie
 
 -- a table is read by its header, and where that is good by its steps
-by-head : (s : List ℕ) {x : TableRead} → readHead s ≡ x → readTable s ≡ withSteps s x
+by-header : (s : List ℕ) {x : TableRead} → readHeader s ≡ x → readTable s ≡ withSteps s x
 unfolding readTable
-by-head s e = ap (withSteps s) e
+by-header s e = ap (withSteps s) e
 
 by-steps : (c : tie.After-steps)
     → readTable (now (c .before .before .before .before .before .before .args .s)) ≡ readSteps (c .before .before .read .given .0 .0) (now (c .steps .result))
 by-steps c =
-    by-head (now (c .before .before .before .before .before .before .args .s)) (sym (c .before .before .before .before .read-head .ensures) ∙ c .before .before .read .given .1)
+    by-header (now (c .before .before .before .before .before .before .args .s)) (sym (c .before .before .before .before .read-header .ensures) ∙ c .before .before .read .given .1)
     ∙ ap (readSteps _) (sym (c .steps .ensures))
 
 module _ (h : Head) (l : List ℕ) (o : ℕ) (oe : o ≡ firstBelow (h .steps) (endsOutside l (h .states))) where
@@ -39,8 +39,8 @@ module _ (h : Head) (l : List ℕ) (o : ℕ) (oe : o ≡ firstBelow (h .steps) (
     unfolding readSteps
     steps-good b = rw (← oe, ← te, le-ltb o (h .steps) a, le-ltb t (h .steps) b)
 
-read-head-requires : tie.Need-read-head-requires
-read-head-requires c κs = search needs
+read-header-requires : tie.Need-read-header-requires
+read-header-requires c κs = search needs
 
 enum-known-read : tie.Need-enum-known-read
 enum-known-read c = search needs
@@ -51,7 +51,7 @@ enum-told c = search needs
 returns : tie.Need-returns
 returns c =
     let e = c .enum-told .given .1 in
-    e ∙ sym (by-head (now (c .before .before .before .before .args .s)) (sym (c .before .before .read-head .ensures) ∙ e))
+    e ∙ sym (by-header (now (c .before .before .before .before .args .s)) (sym (c .before .before .read-header .ensures) ∙ e))
 
 steps-requires : tie.Need-steps-requires
 steps-requires c κs = search needs
@@ -85,7 +85,7 @@ pub read-table-spec : {M : Type 1} → statement M
 read-table-spec =
     tie.close
     (tie.spec
-    read-head-requires
+    read-header-requires
     enum-known-read
     enum-told
     returns
