@@ -3,12 +3,14 @@ use Prim.Native.Nat.{ℕ}
 use mathlib.Core.Path.{_≡_, sym, ap, _∙_}
 use mathlib.Core.List.{List}
 use Rattle.tables.specs.Table.{readTable, startOf}
+use Rattle.tables.specs.Answers.{tableAnswer}
 use Rattle.tables.specs.declared.Head.{Head}
 use Rattle.tables.specs.declared.TableRefusal.{TableRefusal}
 use Rattle.tables.specs.declared.TableRead.{TableRead}
 use Rattle.tables.specs.declared.TableRead.the-variants as table
 use Rattle.certificates.specs.Layout.{sizesOf}
 use Rattle.certificates.specs.Certificate.{readCertificate}
+use Rattle.certificates.specs.CertificateAnswers.{certificateAnswer}
 use Rattle.certificates.specs.declared.Sizes.{Sizes}
 use Rattle.certificates.specs.declared.CertificateRefusal.{CertificateRefusal}
 use Rattle.certificates.specs.declared.CertificateRead.{CertificateRead}
@@ -16,9 +18,23 @@ use Rattle.certificates.specs.declared.CertificateRead.the-variants as certific
 use Rattle.checker.specs.Judge.{blank, tableThen, certificateThen, judgedBytes, judgeAnswer}
 
 module _ (left right c : List ℕ) where
+  -- the answer of a refusal
+  pub left-answer : {r : TableRefusal} → readTable left ≡ table.Refused r → judgeAnswer left right c ≡ tableAnswer r 0
+  unfolding judgeAnswer
+  left-answer q = rw q
+
+  pub right-answer : {h : Head} {r : TableRefusal} → readTable left ≡ table.Good h → readTable right ≡ table.Refused r → judgeAnswer left right c ≡ tableAnswer r 1
+  unfolding judgeAnswer
+  right-answer p q = rw (p, q)
+
+  pub certificate-answer : {h k : Head} {r : CertificateRefusal} → readTable left ≡ table.Good h → readTable right ≡ table.Good k
+      → readCertificate (sizesOf left right) c ≡ certificate.Refused r → judgeAnswer left right c ≡ certificateAnswer r 2
+  unfolding judgeAnswer
+  certificate-answer p q s = rw (p, q, s)
+
   pub left-refused : {x : TableRead} {r : TableRefusal} → x ≡ readTable left → x ≡ table.Refused r → tableThen x 0 blank ≡ judgeAnswer left right c
   unfolding judgeAnswer
-  left-refused e q = rw (← e, q)
+  left-refused e q = ap (λ (x : TableRead). tableThen x 0 blank) q ∙ sym (left-answer (sym e ∙ q))
 
   module _ {h : Head} (gl : readTable left ≡ table.Good h) where
     pub right-refused : {x : TableRead} {r : TableRefusal} → x ≡ readTable right → x ≡ table.Refused r → tableThen x 1 blank ≡ judgeAnswer left right c

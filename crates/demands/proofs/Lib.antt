@@ -1,2 +1,3 @@
 -- The theorems, and the laws that they stand on.
 pub mod CheckLaws
+pub mod JudgeCases

@@ -2,20 +2,22 @@
 use Prim.Native.Nat.{ℕ, _+_, _*_, _≤_, _<_}
 use mathlib.Core.Path.{_≡_}
 use mathlib.Core.Bool.{Bool, cond}
+use mathlib.Core.Logic.{_↔_, _⊎_}
 use mathlib.Core.List.{List}
 use lib.Dec.{T, eqb}
-use Rattle.lists.specs.Below.{sumBelow, countBelow}
+use lib.ListN.{getD}
+use Rattle.lists.specs.Lists.{All}
+use Rattle.lists.specs.Below.{IsFirstBelow, sumBelow, countBelow}
 use Rattle.words.specs.Bits.{countBits}
 use Rattle.bisimulation.specs.Systems.{System, View, Ranks}
-use Rattle.bisimulation.specs.Clauses.{Meets, Certified}
 use Rattle.tables.specs.Table.{statesOf, stepsOf, startOf}
-use Rattle.tables.specs.Conditions.{NoneApplies, tableCauses}
+use Rattle.tables.specs.Conditions.{FirstApplies, NoneApplies, tableCauses, EndOutside, EqualsEarlier}
 use Rattle.tables.specs.declared.Answer.{Answer}
 use Rattle.certificates.specs.Layout.{sizesOf, rowsPart, rowOf}
-use Rattle.certificates.specs.CertificateConditions.{certificateCauses}
+use Rattle.certificates.specs.CertificateConditions.{certificateCauses, certificateNumbers, HasWideBit}
 use Rattle.certificates.specs.CertificateModel.{viewOf, ranksOf}
 use Rattle.obligations.specs.Judging.{checks}
-use Rattle.demands.specs.Checks.{FirstFailure, ByAnswer, ByStutter, ByMatch, Counts}
+use Rattle.demands.specs.Checks.{Passes, FirstFailure, ByAnswer, ByStutter, ByMatch, Counts}
 
 module _ (left right c : List ℕ) where
   -- The systems, the relation and the ranks that the bytes give.
@@ -54,3 +56,38 @@ pub record Accepted (left right c : List ℕ) (answer : Answer) : Type 0 where
   -- the last three sum to the steps from s plus the steps from t over all related pairs, at most m1 n2 + m2 n1
   pub together : answer .b + (answer .c + answer .d) ≡ obligationsOf (view left right c)
   pub at-most : answer .b + (answer .c + answer .d) ≤ stepsOf left * statesOf right + stepsOf right * statesOf left
+
+-- Demand 1 for the judge: each number exactly where its condition holds and none earlier in the order does, whatever the bytes.
+pub record AnswersByConditions (left right c : List ℕ) (answer : Answer) : Type 0 where
+  -- 1 to 9 of the left table, then of the right
+  pub left-table : (k : ℕ) → FirstApplies (tableCauses left) k ↔ ((answer .code ≡ k) × (answer .file ≡ 0) × (0 < k))
+  pub right-table : (k : ℕ) → (NoneApplies (tableCauses left) × FirstApplies (tableCauses right) k) ↔ ((answer .code ≡ k) × (answer .file ≡ 1))
+  -- 10 to 15
+  pub certificate : (k : ℕ)
+      → (NoneApplies (tableCauses left) × NoneApplies (tableCauses right) × ((i : ℕ) × FirstApplies (certificateCauses (sizesOf left right) c) i × (getD certificateNumbers i 0 ≡ k)))
+      ↔ ((answer .code ≡ k) × (10 ≤ k) × (k ≤ 15))
+  -- 16
+  pub starts : (AllWellFormed left right c × (¬ StartsRelated left right c)) ↔ (answer .code ≡ 16)
+  -- 17 to 19, in judging order
+  pub checked : (k : ℕ)
+      → (AllWellFormed left right c × StartsRelated left right c × ((x : Answer) × FirstFailure (view left right c) (ranks left right c) (checks (view left right c)) x × (x .code ≡ k)))
+      ↔ ((answer .code ≡ k) × (17 ≤ k) × (k ≤ 19))
+  -- success
+  pub accepted : (AllWellFormed left right c × StartsRelated left right c × All (Passes (view left right c) (ranks left right c)) (checks (view left right c))) ↔ (answer .code ≡ 0)
+
+-- What the six numbers name, and that unnamed fields are 0.
+pub record NamesFirst (left right c : List ℕ) (answer : Answer) : Type 0 where
+  -- 8 and 9: the first such step
+  pub left-outside : answer .code ≡ 8 → answer .file ≡ 0 → IsFirstBelow (stepsOf left) (EndOutside left) (answer .a)
+  pub right-outside : answer .code ≡ 8 → answer .file ≡ 1 → IsFirstBelow (stepsOf right) (EndOutside right) (answer .a)
+  pub left-doubled : answer .code ≡ 9 → answer .file ≡ 0 → IsFirstBelow (stepsOf left) (EqualsEarlier left) (answer .a)
+  pub right-doubled : answer .code ≡ 9 → answer .file ≡ 1 → IsFirstBelow (stepsOf right) (EqualsEarlier right) (answer .a)
+  -- 15: the first such row
+  pub wide-row : answer .code ≡ 15 → IsFirstBelow (statesOf left) (HasWideBit (rowsPart c (sizesOf left right)) (statesOf right)) (answer .a)
+  -- 16: the starts
+  pub starts-named : answer .code ≡ 16 → answer ≡ record { code = 16; file = 2; a = startOf left; b = startOf right; c = 0; d = 0 }
+  -- 17 to 19: the first check that fails, in judging order
+  pub check-named : 17 ≤ answer .code → answer .code ≤ 19 → FirstFailure (view left right c) (ranks left right c) (checks (view left right c)) answer
+  -- unnamed fields are 0
+  pub a-unnamed : (answer .code ≤ 7) ⊎ ((10 ≤ answer .code) × (answer .code ≤ 14)) → 0 < answer .code → answer .a ≡ 0
+  pub others-unnamed : 0 < answer .code → answer .code ≤ 15 → (answer .b ≡ 0) × (answer .c ≡ 0) × (answer .d ≡ 0)
