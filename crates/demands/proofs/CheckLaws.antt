@@ -7,6 +7,7 @@ use mathlib.Core.Bool.{Bool, true, false, not, cond, _&&_}
 use mathlib.Core.List.{List, [], _∷_, _++_}
 use native.Mathlib.Omega.{arith}
 use lib.Dec.{T, eqb, eqb→eq}
+use borrow.Author.Tests.{ne-eqb}
 use Rattle.lists.specs.Lists.{All}
 use Rattle.lists.proofs.BoolLaws.{and-l, and-r, and-i, eq→eqb, T-dec}
 use Rattle.lists.proofs.BelowLaws.{any-e, any-i}
@@ -219,3 +220,47 @@ module _ (v : View) (r : Ranks) where
       one (labelsOf s t) = inr (λ h. h, label-none Matched s t)
       one (leftStep s t j) = match-counted v r j t 0 s t
       one (rightStep s t j) = match-counted (flip v) (swap r) j s 1 s t
+
+-- ---- and a check that fails stops, so the first failure is the verdict
+
+module _ (side s t j : ℕ) where
+  unstopped : (a b c d : Bool) (x : Answer) → (¬ T a) → (¬ T b) → (¬ T c) → ((T d × (x ≡ stepAnswer 18 side s t j)) ⊎ ((¬ T d) × (x ≡ stepAnswer 19 side s t j)))
+      → stepResult side s t j (outcomeOf a b c d) ≡ stops x
+  unfolding outcomeOf
+  unstopped true b c d x p q r e = absurd (p tt)
+  unstopped false true c d x p q r e = absurd (q tt)
+  unstopped false false true d x p q r e = absurd (r tt)
+  unstopped false false false true x p q r (inl e) = ap stops (sym (e .1))
+  unstopped false false false true x p q r (inr e) = absurd (e .0 tt)
+  unstopped false false false false x p q r (inl e) = absurd (e .0)
+  unstopped false false false false x p q r (inr e) = ap stops (sym (e .1))
+
+unmet-stops : (v : View) (r : Ranks) (j t side left right : ℕ) (x : Answer) → Unmet v r j t side left right x → stepResult side left right j (obligationAt v r j t) ≡ stops x
+unfolding obligationAt
+unmet-stops v r j t side left right x u =
+    unstopped side left right j (is2a v j t) (is2b v r j t) (is2c v r j t) (isApart v j t) x
+    (λ a. u .0 (inl (is2a-e v j t a)))
+    (λ b. u .0 (inr (inl (is2b-e v r j t b))))
+    (λ c. u .0 (inr (inr (is2c-e v r j t c))))
+    (⊎-elim (λ p. inl (apart-i v j t (p .0), p .1)) (λ p. inr (λ a. p .0 (apart-e v j t a), p .1)) (u .1))
+
+module _ (v : View) (r : Ranks) where
+  fails-stops : (c : Check) (x : Answer) → Fails v r c x → result v r c ≡ stops x
+  unfolding result
+  fails-stops (labelsOf s t) x f = ap (λ (b : Bool). cond b passes (stops (labelsAnswer s t))) (ne-eqb _ _ (f .0)) ∙ ap stops (sym (f .1))
+  fails-stops (leftStep s t j) x f = unmet-stops v r j t 0 s t x f
+  fails-stops (rightStep s t j) x f = unmet-stops (flip v) (swap r) j s 1 s t x f
+
+  stopped-here : (before : List Check) (here : Check) (after : List Check) (x : Answer) → All (Goes v r) before → result v r here ≡ stops x
+      → verdict v r (before ++ here ∷ after) ≡ refusedWith x
+  unfolding verdict
+  stopped-here [] here after x g e = ap (λ (y : Result). andThen y (verdict v r after)) e
+  stopped-here (c ∷ cs) here after x g e = go (result v r c) (g .0) (stopped-here cs here after x (g .1) e)
+    where
+      go : (y : Result) → T (goes y) → verdict v r (cs ++ here ∷ after) ≡ refusedWith x → andThen y (verdict v r (cs ++ here ∷ after)) ≡ refusedWith x
+      go passes t q = q
+      go (metBy clause) t q = q
+      go (stops answer) t q = absurd t
+
+  pub first-failure-refused : (cs : List Check) (x : Answer) → FirstFailure v r cs x → verdict v r cs ≡ refusedWith x
+  first-failure-refused cs x f = ap (verdict v r) (f .order) ∙ stopped-here (f .before) (f .here) (f .after) x (all-map (passes-goes v r) (f .before) (f .passed)) (fails-stops (f .here) x (f .failed))

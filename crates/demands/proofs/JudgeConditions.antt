@@ -1,0 +1,305 @@
+-- Demand 1 for the judge: it answers k exactly where the condition of k holds and none earlier does, succeeds exactly where none holds, and a to d name
+-- the first such step, row, pair or check. Assumes nothing.
+use Prim.Native.Nat.{ℕ, _≤_, _<_}
+use mathlib.Core.Path.{_≡_, refl, sym, ap, _∙_, subst}
+use mathlib.Core.Logic.{_↔_, _⊎_, inl, inr, ⊎-elim}
+use mathlib.Core.List.{List}
+use native.Mathlib.Omega.{arith}
+use lib.Dec.{T}
+use lib.ListN.{getD}
+use Rattle.lists.specs.Below.{IsFirstBelow}
+use Rattle.lists.specs.Lists.{All}
+use Rattle.lists.proofs.BoolLaws.{T-true, not-T-false}
+use Rattle.tables.specs.Table.{statesOf, stepsOf, startOf, readTable}
+use Rattle.tables.specs.Answers.{tableAnswer}
+use Rattle.tables.specs.Conditions.{FirstApplies, NoneApplies, tableCauses, EndOutside, EqualsEarlier}
+use Rattle.tables.specs.declared.Answer.{Answer}
+use Rattle.tables.specs.declared.TableRefusal.{TableRefusal}
+use Rattle.tables.specs.declared.TableRefusal.the-variants.{Short, Magic, Version, States, Start, Steps, Length, StepEnd, Doubled}
+use Rattle.tables.specs.declared.TableRead.the-variants as table
+use Rattle.tables.proofs.ConditionLaws.{refused-first, first-refused, none-good, end-outside-first, doubled-first}
+use Rattle.certificates.specs.Layout.{sizesOf, rowsPart}
+use Rattle.certificates.specs.Certificate.{readCertificate}
+use Rattle.certificates.specs.CertificateAnswers.{certificateAnswer}
+use Rattle.certificates.specs.CertificateConditions.{certificateCauses, certificateNumbers, HasWideBit}
+use Rattle.certificates.specs.declared.CertificateRefusal.{CertificateRefusal}
+use Rattle.certificates.specs.declared.CertificateRefusal.the-variants as refused
+use Rattle.certificates.specs.declared.CertificateRead.the-variants as certificate
+use Rattle.certificates.proofs.CertificateConditionLaws.{certificate-refused-first, first-certificate-refused, certificate-none-good, certificate-row-first}
+use Rattle.obligations.specs.Judging.{checks, accepted, refusedWith, verdict}
+use Rattle.obligations.proofs.JudgingLaws.{verdict-i, verdict-e}
+use Rattle.checker.specs.Judge.{pairsIn, verdictAnswer, judged, judgedBytes, judgeAnswer}
+use Rattle.checker.proofs.JudgeLaws.{left-answer, right-answer, certificate-answer}
+use Rattle.demands.specs.Checks.{Passes, FirstFailure}
+use Rattle.demands.specs.Judged.{view, ranks, AllWellFormed, StartsRelated, AnswersByConditions, NamesFirst}
+use Rattle.demands.proofs.CheckLaws.{goes-passes, passes-goes, all-map, refused-first-failure, first-failure-refused}
+use Rattle.demands.proofs.JudgeCases.{Numbers, table-numbers, certificate-numbers, failure-numbers, Case, by-left, by-right, by-certificate, by-starts, by-check, by-none, formed-answer, cases}
+
+-- ---- what a refusal names
+
+module _ (s : List ℕ) (file : ℕ) where
+  outside-named : (r : TableRefusal) → readTable s ≡ table.Refused r → tableAnswer r file .code ≡ 8 → IsFirstBelow (stepsOf s) (EndOutside s) (tableAnswer r file .a)
+  outside-named Short e k = absurd (omega arith)
+  outside-named Magic e k = absurd (omega arith)
+  outside-named Version e k = absurd (omega arith)
+  outside-named States e k = absurd (omega arith)
+  outside-named Start e k = absurd (omega arith)
+  outside-named Steps e k = absurd (omega arith)
+  outside-named Length e k = absurd (omega arith)
+  outside-named (StepEnd j) e k = end-outside-first s e
+  outside-named (Doubled j) e k = absurd (omega arith)
+
+  doubled-named : (r : TableRefusal) → readTable s ≡ table.Refused r → tableAnswer r file .code ≡ 9 → IsFirstBelow (stepsOf s) (EqualsEarlier s) (tableAnswer r file .a)
+  doubled-named Short e k = absurd (omega arith)
+  doubled-named Magic e k = absurd (omega arith)
+  doubled-named Version e k = absurd (omega arith)
+  doubled-named States e k = absurd (omega arith)
+  doubled-named Start e k = absurd (omega arith)
+  doubled-named Steps e k = absurd (omega arith)
+  doubled-named Length e k = absurd (omega arith)
+  doubled-named (StepEnd j) e k = absurd (omega arith)
+  doubled-named (Doubled j) e k = doubled-first s e
+
+-- Nothing but a is named, and a only above a bound.
+record Unnamed (bound : ℕ) (a : Answer) : Type 0 where
+  low : a .code ≤ bound → a .a ≡ 0
+  others : (a .b ≡ 0) × (a .c ≡ 0) × (a .d ≡ 0)
+
+table-unnamed : (r : TableRefusal) (file : ℕ) → Unnamed 7 (tableAnswer r file)
+table-unnamed Short file = record { low = λ l. refl; others = (refl, refl, refl) }
+table-unnamed Magic file = record { low = λ l. refl; others = (refl, refl, refl) }
+table-unnamed Version file = record { low = λ l. refl; others = (refl, refl, refl) }
+table-unnamed States file = record { low = λ l. refl; others = (refl, refl, refl) }
+table-unnamed Start file = record { low = λ l. refl; others = (refl, refl, refl) }
+table-unnamed Steps file = record { low = λ l. refl; others = (refl, refl, refl) }
+table-unnamed Length file = record { low = λ l. refl; others = (refl, refl, refl) }
+table-unnamed (StepEnd j) file = record { low = λ l. absurd (omega arith); others = (refl, refl, refl) }
+table-unnamed (Doubled j) file = record { low = λ l. absurd (omega arith); others = (refl, refl, refl) }
+
+row-named : (left right c : List ℕ) (r : CertificateRefusal) → readCertificate (sizesOf left right) c ≡ certificate.Refused r → certificateAnswer r 2 .code ≡ 15
+    → IsFirstBelow (statesOf left) (HasWideBit (rowsPart c (sizesOf left right)) (statesOf right)) (certificateAnswer r 2 .a)
+unfolding sizesOf
+row-named left right c refused.Short e k = absurd (omega arith)
+row-named left right c refused.Magic e k = absurd (omega arith)
+row-named left right c refused.Version e k = absurd (omega arith)
+row-named left right c refused.Sizes e k = absurd (omega arith)
+row-named left right c refused.Length e k = absurd (omega arith)
+row-named left right c (refused.RowBit s) e k = certificate-row-first (sizesOf left right) c e
+
+certificate-unnamed : (r : CertificateRefusal) → Unnamed 14 (certificateAnswer r 2)
+certificate-unnamed refused.Short = record { low = λ l. refl; others = (refl, refl, refl) }
+certificate-unnamed refused.Magic = record { low = λ l. refl; others = (refl, refl, refl) }
+certificate-unnamed refused.Version = record { low = λ l. refl; others = (refl, refl, refl) }
+certificate-unnamed refused.Sizes = record { low = λ l. refl; others = (refl, refl, refl) }
+certificate-unnamed refused.Length = record { low = λ l. refl; others = (refl, refl, refl) }
+certificate-unnamed (refused.RowBit s) = record { low = λ l. absurd (omega arith); others = (refl, refl, refl) }
+
+module _ (left right c : List ℕ) where
+  abbrev A : Answer
+  A = judgeAnswer left right c
+
+  -- the numbers of the answer in each case
+  by-table : (r : TableRefusal) (file : ℕ) → A ≡ tableAnswer r file → Numbers 1 9 file A
+  by-table r file e = subst (Numbers 1 9 file) (sym e) (table-numbers r file)
+
+  by-file : (r : CertificateRefusal) → A ≡ certificateAnswer r 2 → Numbers 10 15 2 A
+  by-file r e = subst (Numbers 10 15 2) (sym e) (certificate-numbers r)
+
+  by-failure : {x : Answer} → verdict (view left right c) (ranks left right c) (checks (view left right c)) ≡ refusedWith x → A ≡ x → Numbers 17 19 2 A
+  by-failure {x} q e = let f = refused-first-failure (view left right c) (ranks left right c) (checks (view left right c)) x q in subst (Numbers 17 19 2) (sym e) (failure-numbers (view left right c) (ranks left right c) (f .here) x (f .failed))
+
+  -- ---- each number from its condition
+
+  left-i : {k : ℕ} → FirstApplies (tableCauses left) k → (A .code ≡ k) × (A .file ≡ 0) × (0 < k)
+  left-i {k} f =
+      let q = first-refused left f in
+      let e = left-answer left right c (q .1) in
+      let n = by-table (q .0) 0 e in
+      let k = ap (λ (a : Answer). a .code) e ∙ q .2 0 in
+      let m = n .least in
+      (k, n .of-file, omega arith)
+
+  right-i : {k : ℕ} → NoneApplies (tableCauses left) → FirstApplies (tableCauses right) k → (A .code ≡ k) × (A .file ≡ 1)
+  right-i g f =
+      let q = first-refused right f in
+      let e = right-answer left right c (none-good left g) (q .1) in
+      (ap (λ (a : Answer). a .code) e ∙ q .2 1, by-table (q .0) 1 e .of-file)
+
+  certificate-i : {k i : ℕ} → NoneApplies (tableCauses left) → NoneApplies (tableCauses right) → FirstApplies (certificateCauses (sizesOf left right) c) i → getD certificateNumbers i 0 ≡ k
+      → (A .code ≡ k) × (10 ≤ k) × (k ≤ 15)
+  certificate-i {k} g h f p =
+      let q = first-certificate-refused (sizesOf left right) c f in
+      let e = certificate-answer left right c (none-good left g) (none-good right h) (q .1) in
+      let n = by-file (q .0) e in
+      let d : A .code ≡ k = ap (λ (a : Answer). a .code) e ∙ q .2 2 ∙ p in
+      let l = n .least in
+      let m = n .most in
+      (d, omega arith, omega arith)
+
+  starts-i : AllWellFormed left right c → (¬ StartsRelated left right c) → A ≡ record { code = 16; file = 2; a = startOf left; b = startOf right; c = 0; d = 0 }
+  unfolding judgedBytes judged
+  starts-i w h = formed-answer left right c w ∙ rw (not-T-false (view left right c .related (startOf left) (startOf right)) h)
+
+  verdict-is : AllWellFormed left right c → StartsRelated left right c
+      → A ≡ verdictAnswer (view left right c) (ranks left right c) (pairsIn (rowsPart c (sizesOf left right)) (statesOf left)) (verdict (view left right c) (ranks left right c) (checks (view left right c)))
+  unfolding judgedBytes judged
+  verdict-is w h = formed-answer left right c w ∙ rw (T-true (view left right c .related (startOf left) (startOf right)) h)
+
+  check-i : AllWellFormed left right c → StartsRelated left right c → (x : Answer) → FirstFailure (view left right c) (ranks left right c) (checks (view left right c)) x → A ≡ x
+  check-i w h x f = verdict-is w h ∙ ap (verdictAnswer (view left right c) (ranks left right c) (pairsIn (rowsPart c (sizesOf left right)) (statesOf left))) (first-failure-refused (view left right c) (ranks left right c) _ x f)
+
+  none-i : AllWellFormed left right c → StartsRelated left right c → All (Passes (view left right c) (ranks left right c)) (checks (view left right c)) → A .code ≡ 0
+  none-i w h p =
+      ap (λ (a : Answer). a .code)
+      (verdict-is w h ∙ ap (verdictAnswer (view left right c) (ranks left right c) (pairsIn (rowsPart c (sizesOf left right)) (statesOf left)))
+      (verdict-i (view left right c) (ranks left right c) _ (all-map (passes-goes (view left right c) (ranks left right c)) (checks (view left right c)) p)))
+
+  -- ---- each condition from its number: in every other case the number is another
+
+  code-of : {x : Answer} → A ≡ x → A .code ≡ x .code
+  code-of e = ap (λ (a : Answer). a .code) e
+
+  file-of : {x : Answer} → A ≡ x → A .file ≡ x .file
+  file-of e = ap (λ (a : Answer). a .file) e
+
+  left-e : (k : ℕ) → A .code ≡ k → A .file ≡ 0 → 0 < k → Case left right c → FirstApplies (tableCauses left) k
+  left-e k p q l (by-left r s e) = subst (FirstApplies (tableCauses left)) (sym (code-of e) ∙ p) (refused-first left s 0)
+  left-e k p q l (by-right r g s e) = absurd (let n = by-table r 1 e .of-file in omega arith)
+  left-e k p q l (by-certificate r g h s e) = absurd (let n = by-file r e .of-file in omega arith)
+  left-e k p q l (by-starts w h e) = absurd (let n = file-of e in omega arith)
+  left-e k p q l (by-check x w h s e) = absurd (let n = by-failure s e .of-file in omega arith)
+  left-e k p q l (by-none w h s e) = absurd (let n = code-of e in omega arith)
+
+  right-e : (k : ℕ) → A .code ≡ k → A .file ≡ 1 → Case left right c → NoneApplies (tableCauses left) × FirstApplies (tableCauses right) k
+  right-e k p q (by-left r s e) = absurd (let n = by-table r 0 e .of-file in omega arith)
+  right-e k p q (by-right r g s e) = (g, subst (FirstApplies (tableCauses right)) (sym (code-of e) ∙ p) (refused-first right s 1))
+  right-e k p q (by-certificate r g h s e) = absurd (let n = by-file r e .of-file in omega arith)
+  right-e k p q (by-starts w h e) = absurd (let n = file-of e in omega arith)
+  right-e k p q (by-check x w h s e) = absurd (let n = by-failure s e .of-file in omega arith)
+  right-e k p q (by-none w h s e) = absurd (let n = file-of e in omega arith)
+
+  certificate-e : (k : ℕ) → A .code ≡ k → 10 ≤ k → k ≤ 15 → Case left right c
+      → NoneApplies (tableCauses left) × NoneApplies (tableCauses right) × ((i : ℕ) × FirstApplies (certificateCauses (sizesOf left right) c) i × (getD certificateNumbers i 0 ≡ k))
+  certificate-e k p l m (by-left r s e) = absurd (let n = by-table r 0 e .most in omega arith)
+  certificate-e k p l m (by-right r g s e) = absurd (let n = by-table r 1 e .most in omega arith)
+  certificate-e k p l m (by-certificate r g h s e) = let q = certificate-refused-first (sizesOf left right) c s in (g, h, (q .0, q .1, sym (q .2 2) ∙ sym (code-of e) ∙ p))
+  certificate-e k p l m (by-starts w h e) = absurd (let n = code-of e in omega arith)
+  certificate-e k p l m (by-check x w h s e) = absurd (let n = by-failure s e .least in omega arith)
+  certificate-e k p l m (by-none w h s e) = absurd (let n = code-of e in omega arith)
+
+  starts-e : A .code ≡ 16 → Case left right c → AllWellFormed left right c × (¬ StartsRelated left right c)
+  starts-e p (by-left r s e) = absurd (let n = by-table r 0 e .most in omega arith)
+  starts-e p (by-right r g s e) = absurd (let n = by-table r 1 e .most in omega arith)
+  starts-e p (by-certificate r g h s e) = absurd (let n = by-file r e .most in omega arith)
+  starts-e p (by-starts w h e) = (w, h)
+  starts-e p (by-check x w h s e) = absurd (let n = by-failure s e .least in omega arith)
+  starts-e p (by-none w h s e) = absurd (let n = code-of e in omega arith)
+
+  check-e : 17 ≤ A .code → Case left right c → AllWellFormed left right c × StartsRelated left right c × FirstFailure (view left right c) (ranks left right c) (checks (view left right c)) A
+  check-e l (by-left r s e) = absurd (let n = by-table r 0 e .most in omega arith)
+  check-e l (by-right r g s e) = absurd (let n = by-table r 1 e .most in omega arith)
+  check-e l (by-certificate r g h s e) = absurd (let n = by-file r e .most in omega arith)
+  check-e l (by-starts w h e) = absurd (let n = code-of e in omega arith)
+  check-e l (by-check x w h s e) = (w, h, refused-first-failure (view left right c) (ranks left right c) _ A (s ∙ ap refusedWith (sym e)))
+  check-e l (by-none w h s e) = absurd (let n = code-of e in omega arith)
+
+  none-e : A .code ≡ 0 → Case left right c → AllWellFormed left right c × StartsRelated left right c × All (Passes (view left right c) (ranks left right c)) (checks (view left right c))
+  none-e p (by-left r s e) = absurd (let n = by-table r 0 e .least in omega arith)
+  none-e p (by-right r g s e) = absurd (let n = by-table r 1 e .least in omega arith)
+  none-e p (by-certificate r g h s e) = absurd (let n = by-file r e .least in omega arith)
+  none-e p (by-starts w h e) = absurd (let n = code-of e in omega arith)
+  none-e p (by-check x w h s e) = absurd (let n = by-failure s e .least in omega arith)
+  none-e p (by-none w h s e) = (w, h, all-map (goes-passes (view left right c) (ranks left right c)) (checks (view left right c)) (verdict-e (view left right c) (ranks left right c) (checks (view left right c)) s))
+
+  -- the judge answers by the conditions alone
+  pub judge-by-conditions : AnswersByConditions left right c (judgeAnswer left right c)
+  judge-by-conditions =
+      record {
+        left-table = λ k. (left-i, λ p. left-e k (p .0) (p .1) (p .2) (cases left right c));
+        right-table = λ k. (λ p. right-i (p .0) (p .1), λ p. right-e k (p .0) (p .1) (cases left right c));
+        certificate = λ k. (λ p. certificate-i (p .0) (p .1) (p .2 .1) (p .2 .2), λ p. certificate-e k (p .0) (p .1) (p .2) (cases left right c));
+        starts = (λ p. code-of (starts-i (p .0) (p .1)), λ p. starts-e p (cases left right c));
+        checked = λ k. (
+          λ p. let e = check-i (p .0) (p .1) (p .2 .0) (p .2 .1) in let f = p .2 .1 in let n = failure-numbers (view left right c) (ranks left right c) (f .here) (p .2 .0) (f .failed) in let d = p .2 .2 in let l = n .least in let m = n .most in (code-of e ∙ d, omega arith, omega arith),
+          λ p. let q = check-e (let d = p .0 in let l = p .1 in omega arith) (cases left right c) in (q .0, q .1, (A, q .2, p .0)),
+        );
+        accepted = (λ p. none-i (p .0) (p .1) (p .2), λ p. none-e p (cases left right c));
+      }
+
+  names : Case left right c → NamesFirst left right c (judgeAnswer left right c)
+  names (by-left r s e) =
+      record {
+        left-outside = λ p q. subst (λ (a : Answer). IsFirstBelow (stepsOf left) (EndOutside left) (a .a)) (sym e) (outside-named left 0 r s (sym (code-of e) ∙ p));
+        right-outside = λ p q. absurd (let n = by-table r 0 e .of-file in omega arith);
+        left-doubled = λ p q. subst (λ (a : Answer). IsFirstBelow (stepsOf left) (EqualsEarlier left) (a .a)) (sym e) (doubled-named left 0 r s (sym (code-of e) ∙ p));
+        right-doubled = λ p q. absurd (let n = by-table r 0 e .of-file in omega arith);
+        wide-row = λ p. absurd (let n = by-table r 0 e .most in omega arith);
+        starts-named = λ p. absurd (let n = by-table r 0 e .most in omega arith);
+        check-named = λ p q. absurd (let n = by-table r 0 e .most in omega arith);
+        a-unnamed = λ p q. ⊎-elim (λ l. subst (Unnamed 7) (sym e) (table-unnamed r 0) .low l) (λ l. absurd (let n = by-table r 0 e .most in let m = l .0 in omega arith)) p;
+        others-unnamed = λ p q. subst (Unnamed 7) (sym e) (table-unnamed r 0) .others;
+      }
+  names (by-right r g s e) =
+      record {
+        left-outside = λ p q. absurd (let n = by-table r 1 e .of-file in omega arith);
+        right-outside = λ p q. subst (λ (a : Answer). IsFirstBelow (stepsOf right) (EndOutside right) (a .a)) (sym e) (outside-named right 1 r s (sym (code-of e) ∙ p));
+        left-doubled = λ p q. absurd (let n = by-table r 1 e .of-file in omega arith);
+        right-doubled = λ p q. subst (λ (a : Answer). IsFirstBelow (stepsOf right) (EqualsEarlier right) (a .a)) (sym e) (doubled-named right 1 r s (sym (code-of e) ∙ p));
+        wide-row = λ p. absurd (let n = by-table r 1 e .most in omega arith);
+        starts-named = λ p. absurd (let n = by-table r 1 e .most in omega arith);
+        check-named = λ p q. absurd (let n = by-table r 1 e .most in omega arith);
+        a-unnamed = λ p q. ⊎-elim (λ l. subst (Unnamed 7) (sym e) (table-unnamed r 1) .low l) (λ l. absurd (let n = by-table r 1 e .most in let m = l .0 in omega arith)) p;
+        others-unnamed = λ p q. subst (Unnamed 7) (sym e) (table-unnamed r 1) .others;
+      }
+  names (by-certificate r g h s e) =
+      record {
+        left-outside = λ p q. absurd (let n = by-file r e in let x = n .least in let y = n .most in omega arith);
+        right-outside = λ p q. absurd (let n = by-file r e in let x = n .least in let y = n .most in omega arith);
+        left-doubled = λ p q. absurd (let n = by-file r e in let x = n .least in let y = n .most in omega arith);
+        right-doubled = λ p q. absurd (let n = by-file r e in let x = n .least in let y = n .most in omega arith);
+        wide-row = λ p. subst (λ (a : Answer). IsFirstBelow (statesOf left) (HasWideBit (rowsPart c (sizesOf left right)) (statesOf right)) (a .a)) (sym e) (row-named left right c r s (sym (code-of e) ∙ p));
+        starts-named = λ p. absurd (let n = by-file r e in let x = n .least in let y = n .most in omega arith);
+        check-named = λ p q. absurd (let n = by-file r e in let x = n .least in let y = n .most in omega arith);
+        a-unnamed = λ p q. subst (Unnamed 14) (sym e) (certificate-unnamed r) .low (⊎-elim (λ l. omega arith) (λ l. l .1) p);
+        others-unnamed = λ p q. subst (Unnamed 14) (sym e) (certificate-unnamed r) .others;
+      }
+  names (by-starts w h e) =
+      record {
+        left-outside = λ p q. absurd (let n = code-of e in omega arith);
+        right-outside = λ p q. absurd (let n = code-of e in omega arith);
+        left-doubled = λ p q. absurd (let n = code-of e in omega arith);
+        right-doubled = λ p q. absurd (let n = code-of e in omega arith);
+        wide-row = λ p. absurd (let n = code-of e in omega arith);
+        starts-named = λ p. e;
+        check-named = λ p q. absurd (let n = code-of e in omega arith);
+        a-unnamed = λ p q. ⊎-elim (λ l. absurd (let n = code-of e in omega arith)) (λ l. absurd (let m = l .0 in let k = l .1 in let n = code-of e in omega arith)) p;
+        others-unnamed = λ p q. absurd (let n = code-of e in omega arith);
+      }
+  names (by-check x w h s e) =
+      record {
+        left-outside = λ p q. absurd (let n = by-failure s e in let x = n .least in let y = n .most in omega arith);
+        right-outside = λ p q. absurd (let n = by-failure s e in let x = n .least in let y = n .most in omega arith);
+        left-doubled = λ p q. absurd (let n = by-failure s e in let x = n .least in let y = n .most in omega arith);
+        right-doubled = λ p q. absurd (let n = by-failure s e in let x = n .least in let y = n .most in omega arith);
+        wide-row = λ p. absurd (let n = by-failure s e in let x = n .least in let y = n .most in omega arith);
+        starts-named = λ p. absurd (let n = by-failure s e in let x = n .least in let y = n .most in omega arith);
+        check-named = λ p q. refused-first-failure (view left right c) (ranks left right c) (checks (view left right c)) A (s ∙ ap refusedWith (sym e));
+        a-unnamed = λ p q. ⊎-elim (λ l. absurd (let n = by-failure s e in let x = n .least in let y = n .most in omega arith)) (λ l. absurd (let m = l .0 in let k = l .1 in let n = by-failure s e in let x = n .least in let y = n .most in omega arith)) p;
+        others-unnamed = λ p q. absurd (let n = by-failure s e in let x = n .least in let y = n .most in omega arith);
+      }
+  names (by-none w h s e) =
+      record {
+        left-outside = λ p q. absurd (let n = code-of e in omega arith);
+        right-outside = λ p q. absurd (let n = code-of e in omega arith);
+        left-doubled = λ p q. absurd (let n = code-of e in omega arith);
+        right-doubled = λ p q. absurd (let n = code-of e in omega arith);
+        wide-row = λ p. absurd (let n = code-of e in omega arith);
+        starts-named = λ p. absurd (let n = code-of e in omega arith);
+        check-named = λ p q. absurd (let n = code-of e in omega arith);
+        a-unnamed = λ p q. ⊎-elim (λ l. absurd (let n = code-of e in omega arith)) (λ l. absurd (let m = l .0 in let k = l .1 in let n = code-of e in omega arith)) p;
+        others-unnamed = λ p q. absurd (let n = code-of e in omega arith);
+      }
+
+  -- a to d name the first such step, row, pair or check, and unnamed fields are 0
+  pub judge-names-first : NamesFirst left right c (judgeAnswer left right c)
+  judge-names-first = names (cases left right c)
