@@ -1,4 +1,5 @@
 -- The theorems, and the laws that they stand on.
 pub mod CheckLaws
+pub mod CountLaws
 pub mod JudgeCases
 pub mod JudgeConditions
