@@ -140,7 +140,7 @@ module _ (left right c : List ℕ) where
   unfolding judgedBytes judged
   starts-i w h = formed-answer left right c w ∙ rw (not-T-false (view left right c .related (startOf left) (startOf right)) h)
 
-  verdict-is : AllWellFormed left right c → StartsRelated left right c
+  pub verdict-is : AllWellFormed left right c → StartsRelated left right c
       → A ≡ verdictAnswer (view left right c) (ranks left right c) (pairsIn (rowsPart c (sizesOf left right)) (statesOf left)) (verdict (view left right c) (ranks left right c) (checks (view left right c)))
   unfolding judgedBytes judged
   verdict-is w h = formed-answer left right c w ∙ rw (T-true (view left right c .related (startOf left) (startOf right)) h)
@@ -203,13 +203,19 @@ module _ (left right c : List ℕ) where
   check-e l (by-check x w h s e) = (w, h, refused-first-failure (view left right c) (ranks left right c) _ A (s ∙ ap refusedWith (sym e)))
   check-e l (by-none w h s e) = absurd (let n = code-of e in omega arith)
 
-  none-e : A .code ≡ 0 → Case left right c → AllWellFormed left right c × StartsRelated left right c × All (Passes (view left right c) (ranks left right c)) (checks (view left right c))
-  none-e p (by-left r s e) = absurd (let n = by-table r 0 e .least in omega arith)
-  none-e p (by-right r g s e) = absurd (let n = by-table r 1 e .least in omega arith)
-  none-e p (by-certificate r g h s e) = absurd (let n = by-file r e .least in omega arith)
-  none-e p (by-starts w h e) = absurd (let n = code-of e in omega arith)
-  none-e p (by-check x w h s e) = absurd (let n = by-failure s e .least in omega arith)
-  none-e p (by-none w h s e) = (w, h, all-map (goes-passes (view left right c) (ranks left right c)) (checks (view left right c)) (verdict-e (view left right c) (ranks left right c) (checks (view left right c)) s))
+  -- an accepted certificate
+  pub accepted-case : A .code ≡ 0 → (w : AllWellFormed left right c) × StartsRelated left right c × (verdict (view left right c) (ranks left right c) (checks (view left right c)) ≡ accepted)
+      × (A ≡ verdictAnswer (view left right c) (ranks left right c) (pairsIn (rowsPart c (sizesOf left right)) (statesOf left)) accepted)
+  accepted-case p = go (cases left right c)
+    where
+      go : Case left right c → (w : AllWellFormed left right c) × StartsRelated left right c × (verdict (view left right c) (ranks left right c) (checks (view left right c)) ≡ accepted)
+          × (A ≡ verdictAnswer (view left right c) (ranks left right c) (pairsIn (rowsPart c (sizesOf left right)) (statesOf left)) accepted)
+      go (by-left r s e) = absurd (let n = by-table r 0 e .least in omega arith)
+      go (by-right r g s e) = absurd (let n = by-table r 1 e .least in omega arith)
+      go (by-certificate r g h s e) = absurd (let n = by-file r e .least in omega arith)
+      go (by-starts w h e) = absurd (let n = code-of e in omega arith)
+      go (by-check x w h s e) = absurd (let n = by-failure s e .least in omega arith)
+      go (by-none w h s e) = (w, h, s, e)
 
   -- the judge answers by the conditions alone
   pub judge-by-conditions : AnswersByConditions left right c (judgeAnswer left right c)
@@ -223,7 +229,7 @@ module _ (left right c : List ℕ) where
           λ p. let e = check-i (p .0) (p .1) (p .2 .0) (p .2 .1) in let f = p .2 .1 in let n = failure-numbers (view left right c) (ranks left right c) (f .here) (p .2 .0) (f .failed) in let d = p .2 .2 in let l = n .least in let m = n .most in (code-of e ∙ d, omega arith, omega arith),
           λ p. let q = check-e (let d = p .0 in let l = p .1 in omega arith) (cases left right c) in (q .0, q .1, (A, q .2, p .0)),
         );
-        accepted = (λ p. none-i (p .0) (p .1) (p .2), λ p. none-e p (cases left right c));
+        accepted = (λ p. none-i (p .0) (p .1) (p .2), λ p. let q = accepted-case p in (q .0, q .1, all-map (goes-passes (view left right c) (ranks left right c)) (checks (view left right c)) (verdict-e (view left right c) (ranks left right c) (checks (view left right c)) (q .2))));
       }
 
   names : Case left right c → NamesFirst left right c (judgeAnswer left right c)

@@ -3,3 +3,4 @@ pub mod CheckLaws
 pub mod CountLaws
 pub mod JudgeCases
 pub mod JudgeConditions
+pub mod JudgeExact

@@ -1,0 +1,55 @@
+-- Demand 2 on bytes: the judge accepts exactly the well-founded bisimulations with starts related. Three statements say it: which certificates are
+-- accepted, which relations have an accepted certificate, and how a certificate's ranks and the paper's rank of triples meet.
+use Prim.Native.Nat.{ℕ, _+_, _*_, _<_}
+use mathlib.Core.Path.{_≡_}
+use mathlib.Core.Logic.{_↔_}
+use mathlib.Core.List.{List}
+use lib.Dec.{T}
+use lib.ListN.{length}
+use Rattle.lists.specs.Numbers.{byteAt}
+use Rattle.bisimulation.specs.Systems.{View}
+use Rattle.bisimulation.specs.Clauses.{Meets, Certified}
+use Rattle.bisimulation.specs.Namjoshi.{Bisimulation, InitialStatesRelated, SomeRank}
+use Rattle.bisimulation.specs.Triples.{tripleRank, raised}
+use Rattle.tables.specs.Table.{statesOf, stepsOf}
+use Rattle.tables.specs.Conditions.{NoneApplies, tableCauses}
+use Rattle.tables.specs.declared.Answer.{Answer}
+use Rattle.certificates.specs.Layout.{sizesOf, rowsAt, alAt, arAt, clAt, crAt}
+use Rattle.certificates.specs.CertificateConditions.{relationCauses}
+use Rattle.certificates.specs.CertificateModel.{AreBytes, viewOf}
+use Rattle.demands.specs.Judged.{view, ranks, AllWellFormed, Accepted}
+
+-- The judge's answer to the certificate c.
+pub record JudgeExact (left right c : List ℕ) (answer : Answer) : Type 0 where
+  -- It accepts exactly where all three files are well formed, the starts are related, labels are equal, and every obligation of both sides meets 2a, 2b or 2c.
+  pub certificates : (answer .code ≡ 0) ↔ (AllWellFormed left right c × Certified Meets (view left right c) (ranks left right c))
+  -- The counts are those of the related pairs and of the obligations by the clause that meets them.
+  pub counted : answer .code ≡ 0 → Accepted left right c answer
+  -- A certificate whose ranks, as one rank of triples, make the relation the paper's well-founded bisimulation, clause by clause, is accepted.
+  pub literal-accepted : AllWellFormed left right c → InitialStatesRelated (view left right c) → Bisimulation (view left right c) _<_ (tripleRank (view left right c) (ranks left right c))
+      → answer .code ≡ 0
+  -- The ranks of an accepted certificate do so once the A ranks are raised.
+  pub accepted-raised : answer .code ≡ 0
+      → InitialStatesRelated (view left right c) × Bisimulation (view left right c) _<_ (tripleRank (view left right c) (raised (view left right c) (ranks left right c)))
+
+-- The file has the relation's rows, whatever its other bytes.
+abbrev pub HasRows : (left right relation c : List ℕ) → Type 0
+HasRows left right relation c = (i : ℕ) → i < 8 * statesOf left → byteAt c (rowsAt (sizesOf left right) + i) ≡ byteAt relation i
+
+-- The two tables and the relation are well formed.
+pub record Drawn (left right relation : List ℕ) : Type 0 where
+  pub left-formed : NoneApplies (tableCauses left)
+  pub right-formed : NoneApplies (tableCauses right)
+  pub relation-formed : NoneApplies (relationCauses (sizesOf left right) relation)
+  pub relation-bytes : AreBytes relation
+
+-- Two certificates that differ only in ranks of unrelated pairs: they have one length, the same header and rows, and the same ranks where s, t are related.
+pub record SameWhereRelated (left right c c′ : List ℕ) : Type 0 where
+  pub long : length c ≡ length c′
+  pub head : (i : ℕ) → i < alAt (sizesOf left right) → byteAt c i ≡ byteAt c′ i
+  pub al : (s t : ℕ) → T (view left right c .related s t) → byteAt c (alAt (sizesOf left right) + (s * statesOf right + t)) ≡ byteAt c′ (alAt (sizesOf left right) + (s * statesOf right + t))
+  pub ar : (s t : ℕ) → T (view left right c .related s t) → byteAt c (arAt (sizesOf left right) + (t * statesOf left + s)) ≡ byteAt c′ (arAt (sizesOf left right) + (t * statesOf left + s))
+  pub cl : (j t : ℕ) → T (view left right c .related (view left right c .own .from j) t)
+      → byteAt c (clAt (sizesOf left right) + (j * statesOf right + t)) ≡ byteAt c′ (clAt (sizesOf left right) + (j * statesOf right + t))
+  pub cr : (j s : ℕ) → T (view left right c .related s (view left right c .other .from j))
+      → byteAt c (crAt (sizesOf left right) + (j * statesOf left + s)) ≡ byteAt c′ (crAt (sizesOf left right) + (j * statesOf left + s))
