@@ -1,4 +1,5 @@
 -- Laws of tables, for the proofs of this crate and of those above it.
+pub mod DoubledLaws
 pub mod TestLaws
 pub mod CauseLaws
 pub mod RefusalLaws

@@ -245,31 +245,22 @@ fn first_outside(steps: &[u8], n: usize, m: usize) -> usize
     m
 }
 
-// Whether step j equals an earlier one.
-fn is_doubled(steps: &[u8], j: usize) -> bool
-    ensures { λ r. ⌜ r ≡ doubled (now (steps .entry)) j ⌝ }
-{
-    let mut i: usize = 0;
-    while i < j {
-        if from(steps, i) == from(steps, j) {
-            if to(steps, i) == to(steps, j) {
-                return true;
-            }
-        }
-        i += 1;
-    }
-    false
-}
-
-// The first of m steps that equals an earlier one, and m where there is none.
+// The first of m steps that equals an earlier one, and m where there is none. A step from s to u that was met sets bit u % 64 of word 4 s + u / 64.
 fn first_doubled(steps: &[u8], m: usize) -> usize
     ensures { λ r. ⌜ r ≡ firstBelow m (doubled (now (steps .entry))) ⌝ }
 {
+    let mut met: [u64; 1024] = [0; 1024];
     let mut j: usize = 0;
     while j < m {
-        if is_doubled(steps, j) {
+        let s = from(steps, j);
+        let u = to(steps, j);
+        let at = s * 4 + u / 64;
+        let word = Row(met[at]);
+        if word.has(u % 64) {
             return j;
         }
+        let more = word.add(u % 64);
+        met[at] = more.0;
         j += 1;
     }
     m
