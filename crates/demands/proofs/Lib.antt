@@ -4,3 +4,4 @@ pub mod CountLaws
 pub mod JudgeCases
 pub mod JudgeConditions
 pub mod JudgeExact
+pub mod UnrelatedRanks

@@ -25,7 +25,7 @@ use Rattle.obligations.proofs.ObligationLaws.{met-iff}
 -- ---- what holds of all elements of joined lists
 
 module _ {A : Type 0} (P : A → Type 0) where
-  all-append : (xs ys : List A) → All P xs → All P ys → All P (xs ++ ys)
+  pub all-append : (xs ys : List A) → All P xs → All P ys → All P (xs ++ ys)
   all-append [] ys a b = b
   all-append (x ∷ xs) ys a b = (a .0, all-append xs ys (a .1) b)
 
@@ -48,7 +48,7 @@ module _ {A : Type 0} (P : A → Type 0) where
   join-all (suc n) f h zero l = append-left (f 0) _ h
   join-all (suc n) f h (suc i) l = join-all n (λ k. f (suc k)) (append-right (f 0) _ h) i (le-of-suc-le-suc l)
 
-  all-when : (b : Bool) (xs : List A) → (T b → All P xs) → All P (cond b xs [])
+  pub all-when : (b : Bool) (xs : List A) → (T b → All P xs) → All P (cond b xs [])
   all-when true xs h = h tt
   all-when false xs h = tt
 
@@ -56,7 +56,7 @@ module _ {A : Type 0} (P : A → Type 0) where
   when-all true xs h t = h
   when-all false xs h t = absurd t
 
-all-map : {A B : Type 0} (P : B → Type 0) (f : A → B) (xs : List A) → All (λ x. P (f x)) xs → All P (map f xs)
+pub all-map : {A B : Type 0} (P : B → Type 0) (f : A → B) (xs : List A) → All (λ x. P (f x)) xs → All P (map f xs)
 all-map P f [] a = tt
 all-map P f (x ∷ xs) a = (a .0, all-map P f xs (a .1))
 
