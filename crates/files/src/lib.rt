@@ -1,0 +1,1 @@
+// The file of a certificate, written from the maker's tables.
