@@ -15,7 +15,8 @@ use Rattle.files.proofs.WriterLaws.{Spans, spans, span-order, span-end,
 use Rattle.files.proofs.write_parts.Statement.{statement}
 use Rattle.files.proofs.write_parts.Tie as tie
 
--- Where the offsets are known.
+-- ---- what is known once the offsets are: the arguments, the offsets, and that the parts follow each other
+
 abbrev start : tie.After-length → tie.Start
 start c = c .before .before .before .before .before .before .before .before .before .before .before .before .before .before .before .before .before .before
 
@@ -45,8 +46,8 @@ end c = c .length .result
 
 known : (c : tie.After-length) → Spans (sizes c) (output c) (rows c) (al c) (ar c) (cl c) (cr c) (end c)
 known c =
-    spans (sizes c) (output c) (c .before .before .before .before .before .rows-at .ensures) (c .before .before .before .before .al-at .ensures) (c .before .before .before .ar-at .ensures) (c .before .before .cl-at .ensures)
-    (c .before .cr-at .ensures) (c .length .ensures) (start c .pre .1)
+    spans (sizes c) (output c) (c .before .before .before .before .before .rows-at .ensures) (c .before .before .before .before .al-at .ensures)
+    (c .before .before .before .ar-at .ensures) (c .before .before .cl-at .ensures) (c .before .cr-at .ensures) (c .length .ensures) (start c .pre .1)
 
 small : (c : tie.After-struct-known4) → FitsHeader (c .before .before .before .before .before .before .before .before .before .before .before .before .args .sizes)
 small c = record { n1< = omega arith; n2< = omega arith; m1< = omega arith; m2< = omega arith }
@@ -54,96 +55,99 @@ small c = record { n1< = omega arith; n2< = omega arith; m1< = omega arith; m2< 
 fits : (c : tie.After-length) → FitsHeader (sizes c)
 fits c = small (c .before .before .before .before .before .before)
 
--- The output when each part is back, and its front.
-abbrev at2 : tie.After-slice-known2 → tie.After-length
-at2 c = c .before .before .before .before
+-- ---- the output when each part is back, and its front: the header, the rows, then the runs
 
-abbrev output2 : tie.After-slice-known2 → List ℕ
-output2 c = putMid 0 (rows (at2 c) - 0) (output (at2 c)) (c .before .before .put-header .last .1 .0)
+abbrev at-header : tie.After-slice-known2 → tie.After-length
+at-header c = c .before .before .before .before
 
-abbrev part2 : tie.After-length → List ℕ
-part2 c = certificateHeader (sizes c)
+abbrev output-header : tie.After-slice-known2 → List ℕ
+output-header c = putMid 0 (rows (at-header c) - 0) (output (at-header c)) (c .before .before .put-header .last .1 .0)
 
-abbrev written2 : tie.After-length → List ℕ
-written2 c = part2 c
+abbrev part-header : tie.After-length → List ℕ
+part-header c = certificateHeader (sizes c)
 
-front2 : (c : tie.After-slice-known2) → Front (written2 (at2 c)) (output (at2 c)) (output2 c) (rows (at2 c))
-front2 c = span-front (front-none _) (known (at2 c) .header) (part2 (at2 c)) (c .before .before .put-header .ensures) (header-length (sizes (at2 c)))
+abbrev to-header : tie.After-length → List ℕ
+to-header c = part-header c
 
-abbrev at3 : tie.After-slice-known3 → tie.After-length
-at3 c = at2 (c .before .before .before .before)
+front-header : (c : tie.After-slice-known2) → Front (to-header (at-header c)) (output (at-header c)) (output-header c) (rows (at-header c))
+front-header c = span-front (front-none _) (known (at-header c) .header) (part-header (at-header c)) (c .before .before .put-header .ensures) (header-length (sizes (at-header c)))
 
-abbrev output3 : tie.After-slice-known3 → List ℕ
-output3 c = putMid (rows (at3 c)) (al (at3 c) - (rows (at3 c))) (output2 (c .before .before .before .before)) (c .before .before .put-rows .last .1 .0)
+abbrev at-rows : tie.After-slice-known3 → tie.After-length
+at-rows c = at-header (c .before .before .before .before)
 
-abbrev part3 : tie.After-length → List ℕ
-part3 c = start c .args .relation .now
+abbrev output-rows : tie.After-slice-known3 → List ℕ
+output-rows c = putMid (rows (at-rows c)) (al (at-rows c) - rows (at-rows c)) (output-header (c .before .before .before .before)) (c .before .before .put-rows .last .1 .0)
 
-abbrev written3 : tie.After-length → List ℕ
-written3 c = written2 c ++ part3 c
+abbrev part-rows : tie.After-length → List ℕ
+part-rows c = start c .args .relation .now
 
-front3 : (c : tie.After-slice-known3) → Front (written3 (at3 c)) (output (at3 c)) (output3 c) (al (at3 c))
-front3 c = span-front (front2 (c .before .before .before .before)) (known (at3 c) .rows-run) (part3 (at3 c)) (c .before .before .put-rows .ensures) (start (at3 c) .pre .0)
+abbrev to-rows : tie.After-length → List ℕ
+to-rows c = to-header c ++ part-rows c
 
-abbrev at4 : tie.After-slice-known4 → tie.After-length
-at4 c = at3 (c .before .before .before .before)
+front-rows : (c : tie.After-slice-known3) → Front (to-rows (at-rows c)) (output (at-rows c)) (output-rows c) (al (at-rows c))
+front-rows c = span-front (front-header (c .before .before .before .before)) (known (at-rows c) .rows-run) (part-rows (at-rows c)) (c .before .before .put-rows .ensures) (start (at-rows c) .pre .0)
 
-abbrev output4 : tie.After-slice-known4 → List ℕ
-output4 c = putMid (al (at4 c)) (ar (at4 c) - (al (at4 c))) (output3 (c .before .before .before .before)) (c .before .before .fill-stutter-ranks .last .1 .1 .1 .1 .0)
+abbrev at-al : tie.After-slice-known4 → tie.After-length
+at-al c = at-rows (c .before .before .before .before)
 
-abbrev part4 : tie.After-length → List ℕ
-part4 c = grid (sizes c .n1) (sizes c .n2) (stutterFrom (start c .args .words1 .now) (start c .args .chains1 .now))
+abbrev output-al : tie.After-slice-known4 → List ℕ
+output-al c = putMid (al (at-al c)) (ar (at-al c) - al (at-al c)) (output-rows (c .before .before .before .before)) (c .before .before .fill-stutter-ranks .last .1 .1 .1 .1 .0)
 
-abbrev written4 : tie.After-length → List ℕ
-written4 c = written3 c ++ part4 c
+abbrev part-al : tie.After-length → List ℕ
+part-al c = grid (sizes c .n1) (sizes c .n2) (stutterFrom (start c .args .words1 .now) (start c .args .chains1 .now))
 
-front4 : (c : tie.After-slice-known4) → Front (written4 (at4 c)) (output (at4 c)) (output4 c) (ar (at4 c))
-front4 c = span-front (front3 (c .before .before .before .before)) (known (at4 c) .al-run) (part4 (at4 c)) (c .before .before .fill-stutter-ranks .ensures) (length-grid _ _ _)
+abbrev to-al : tie.After-length → List ℕ
+to-al c = to-rows c ++ part-al c
 
-abbrev at5 : tie.After-slice-known5 → tie.After-length
-at5 c = at4 (c .before .before .before .before)
+front-al : (c : tie.After-slice-known4) → Front (to-al (at-al c)) (output (at-al c)) (output-al c) (ar (at-al c))
+front-al c = span-front (front-rows (c .before .before .before .before)) (known (at-al c) .al-run) (part-al (at-al c)) (c .before .before .fill-stutter-ranks .ensures) (length-grid _ _ _)
 
-abbrev output5 : tie.After-slice-known5 → List ℕ
-output5 c = putMid (ar (at5 c)) (cl (at5 c) - (ar (at5 c))) (output4 (c .before .before .before .before)) (c .before .before .fill-stutter-ranks2 .last .1 .1 .1 .1 .0)
+abbrev at-ar : tie.After-slice-known5 → tie.After-length
+at-ar c = at-al (c .before .before .before .before)
 
-abbrev part5 : tie.After-length → List ℕ
-part5 c = grid (sizes c .n2) (sizes c .n1) (stutterFrom (start c .args .words2 .now) (start c .args .chains2 .now))
+abbrev output-ar : tie.After-slice-known5 → List ℕ
+output-ar c = putMid (ar (at-ar c)) (cl (at-ar c) - ar (at-ar c)) (output-al (c .before .before .before .before)) (c .before .before .fill-stutter-ranks2 .last .1 .1 .1 .1 .0)
 
-abbrev written5 : tie.After-length → List ℕ
-written5 c = written4 c ++ part5 c
+abbrev part-ar : tie.After-length → List ℕ
+part-ar c = grid (sizes c .n2) (sizes c .n1) (stutterFrom (start c .args .words2 .now) (start c .args .chains2 .now))
 
-front5 : (c : tie.After-slice-known5) → Front (written5 (at5 c)) (output (at5 c)) (output5 c) (cl (at5 c))
-front5 c = span-front (front4 (c .before .before .before .before)) (known (at5 c) .ar-run) (part5 (at5 c)) (c .before .before .fill-stutter-ranks2 .ensures) (length-grid _ _ _)
+abbrev to-ar : tie.After-length → List ℕ
+to-ar c = to-al c ++ part-ar c
 
-abbrev at6 : tie.After-slice-known6 → tie.After-length
-at6 c = at5 (c .before .before .before .before)
+front-ar : (c : tie.After-slice-known5) → Front (to-ar (at-ar c)) (output (at-ar c)) (output-ar c) (cl (at-ar c))
+front-ar c = span-front (front-al (c .before .before .before .before)) (known (at-ar c) .ar-run) (part-ar (at-ar c)) (c .before .before .fill-stutter-ranks2 .ensures) (length-grid _ _ _)
 
-abbrev output6 : tie.After-slice-known6 → List ℕ
-output6 c = putMid (cl (at6 c)) (cr (at6 c) - (cl (at6 c))) (output5 (c .before .before .before .before)) (c .before .before .fill-match-ranks .last .1 .1 .1 .0)
+abbrev at-cl : tie.After-slice-known6 → tie.After-length
+at-cl c = at-ar (c .before .before .before .before)
 
-abbrev part6 : tie.After-length → List ℕ
-part6 c = grid (sizes c .m1) (sizes c .n2) (matchFrom (start c .args .distances1 .now) (sizes c .n2))
+abbrev output-cl : tie.After-slice-known6 → List ℕ
+output-cl c = putMid (cl (at-cl c)) (cr (at-cl c) - cl (at-cl c)) (output-ar (c .before .before .before .before)) (c .before .before .fill-match-ranks .last .1 .1 .1 .0)
 
-abbrev written6 : tie.After-length → List ℕ
-written6 c = written5 c ++ part6 c
+abbrev part-cl : tie.After-length → List ℕ
+part-cl c = grid (sizes c .m1) (sizes c .n2) (matchFrom (start c .args .distances1 .now) (sizes c .n2))
 
-front6 : (c : tie.After-slice-known6) → Front (written6 (at6 c)) (output (at6 c)) (output6 c) (cr (at6 c))
-front6 c = span-front (front5 (c .before .before .before .before)) (known (at6 c) .cl-run) (part6 (at6 c)) (c .before .before .fill-match-ranks .ensures) (length-grid _ _ _)
+abbrev to-cl : tie.After-length → List ℕ
+to-cl c = to-ar c ++ part-cl c
 
-abbrev at7 : tie.After-slice-known7 → tie.After-length
-at7 c = at6 (c .before .before .before .before)
+front-cl : (c : tie.After-slice-known6) → Front (to-cl (at-cl c)) (output (at-cl c)) (output-cl c) (cr (at-cl c))
+front-cl c = span-front (front-ar (c .before .before .before .before)) (known (at-cl c) .cl-run) (part-cl (at-cl c)) (c .before .before .fill-match-ranks .ensures) (length-grid _ _ _)
 
-abbrev output7 : tie.After-slice-known7 → List ℕ
-output7 c = putMid (cr (at7 c)) (end (at7 c) - (cr (at7 c))) (output6 (c .before .before .before .before)) (c .before .before .fill-match-ranks2 .last .1 .1 .1 .0)
+abbrev at-cr : tie.After-slice-known7 → tie.After-length
+at-cr c = at-cl (c .before .before .before .before)
 
-abbrev part7 : tie.After-length → List ℕ
-part7 c = grid (sizes c .m2) (sizes c .n1) (matchFrom (start c .args .distances2 .now) (sizes c .n1))
+abbrev output-cr : tie.After-slice-known7 → List ℕ
+output-cr c = putMid (cr (at-cr c)) (end (at-cr c) - cr (at-cr c)) (output-cl (c .before .before .before .before)) (c .before .before .fill-match-ranks2 .last .1 .1 .1 .0)
 
-abbrev written7 : tie.After-length → List ℕ
-written7 c = written6 c ++ part7 c
+abbrev part-cr : tie.After-length → List ℕ
+part-cr c = grid (sizes c .m2) (sizes c .n1) (matchFrom (start c .args .distances2 .now) (sizes c .n1))
 
-front7 : (c : tie.After-slice-known7) → Front (written7 (at7 c)) (output (at7 c)) (output7 c) (end (at7 c))
-front7 c = span-front (front6 (c .before .before .before .before)) (known (at7 c) .cr-run) (part7 (at7 c)) (c .before .before .fill-match-ranks2 .ensures) (length-grid _ _ _)
+abbrev to-cr : tie.After-length → List ℕ
+to-cr c = to-cl c ++ part-cr c
+
+front-cr : (c : tie.After-slice-known7) → Front (to-cr (at-cr c)) (output (at-cr c)) (output-cr c) (end (at-cr c))
+front-cr c = span-front (front-cl (c .before .before .before .before)) (known (at-cr c) .cr-run) (part-cr (at-cr c)) (c .before .before .fill-match-ranks2 .ensures) (length-grid _ _ _)
+
+-- ---- the needs
 
 cast-n1 : tie.Need-cast-n1
 cast-n1 c = search needs
@@ -188,71 +192,71 @@ put-header-requires : tie.Need-put-header-requires
 put-header-requires c κs = span-length (front-none _) (known (c .before) .header)
 
 sub-put-rows : tie.Need-sub-put-rows
-sub-put-rows c = span-order (known (at2 c) .rows-run)
+sub-put-rows c = span-order (known (at-header c) .rows-run)
 
 part-put-rows-start : tie.Need-part-put-rows-start
-part-put-rows-start c = span-order (known (at2 c) .rows-run)
+part-put-rows-start c = span-order (known (at-header c) .rows-run)
 
 part-put-rows-end : tie.Need-part-put-rows-end
-part-put-rows-end c = span-end (front2 c) (known (at2 c) .rows-run)
+part-put-rows-end c = span-end (front-header c) (known (at-header c) .rows-run)
 
 put-rows-requires : tie.Need-put-rows-requires
-put-rows-requires c κs = span-length (front2 (c .before)) (known (at2 (c .before)) .rows-run) ∙ sym (start (at2 (c .before)) .pre .0)
+put-rows-requires c κs = span-length (front-header (c .before)) (known (at-header (c .before)) .rows-run) ∙ sym (start (at-header (c .before)) .pre .0)
 
 sub-fill-stutter-ranks : tie.Need-sub-fill-stutter-ranks
-sub-fill-stutter-ranks c = span-order (known (at3 c) .al-run)
+sub-fill-stutter-ranks c = span-order (known (at-rows c) .al-run)
 
 part-fill-stutter-ranks-start : tie.Need-part-fill-stutter-ranks-start
-part-fill-stutter-ranks-start c = span-order (known (at3 c) .al-run)
+part-fill-stutter-ranks-start c = span-order (known (at-rows c) .al-run)
 
 part-fill-stutter-ranks-end : tie.Need-part-fill-stutter-ranks-end
-part-fill-stutter-ranks-end c = span-end (front3 c) (known (at3 c) .al-run)
+part-fill-stutter-ranks-end c = span-end (front-rows c) (known (at-rows c) .al-run)
 
 fill-stutter-ranks-requires : tie.Need-fill-stutter-ranks-requires
-fill-stutter-ranks-requires c κs = (fits (at3 (c .before)) .n1<, fits (at3 (c .before)) .n2<, span-length (front3 (c .before)) (known (at3 (c .before)) .al-run))
+fill-stutter-ranks-requires c κs = (fits (at-rows (c .before)) .n1<, fits (at-rows (c .before)) .n2<, span-length (front-rows (c .before)) (known (at-rows (c .before)) .al-run))
 
 sub-fill-stutter-ranks-2 : tie.Need-sub-fill-stutter-ranks-2
-sub-fill-stutter-ranks-2 c = span-order (known (at4 c) .ar-run)
+sub-fill-stutter-ranks-2 c = span-order (known (at-al c) .ar-run)
 
 part-fill-stutter-ranks-start-2 : tie.Need-part-fill-stutter-ranks-start-2
-part-fill-stutter-ranks-start-2 c = span-order (known (at4 c) .ar-run)
+part-fill-stutter-ranks-start-2 c = span-order (known (at-al c) .ar-run)
 
 part-fill-stutter-ranks-end-2 : tie.Need-part-fill-stutter-ranks-end-2
-part-fill-stutter-ranks-end-2 c = span-end (front4 c) (known (at4 c) .ar-run)
+part-fill-stutter-ranks-end-2 c = span-end (front-al c) (known (at-al c) .ar-run)
 
 fill-stutter-ranks-requires-2 : tie.Need-fill-stutter-ranks-requires-2
-fill-stutter-ranks-requires-2 c κs = (fits (at4 (c .before)) .n2<, fits (at4 (c .before)) .n1<, span-length (front4 (c .before)) (known (at4 (c .before)) .ar-run))
+fill-stutter-ranks-requires-2 c κs = (fits (at-al (c .before)) .n2<, fits (at-al (c .before)) .n1<, span-length (front-al (c .before)) (known (at-al (c .before)) .ar-run))
 
 sub-fill-match-ranks : tie.Need-sub-fill-match-ranks
-sub-fill-match-ranks c = span-order (known (at5 c) .cl-run)
+sub-fill-match-ranks c = span-order (known (at-ar c) .cl-run)
 
 part-fill-match-ranks-start : tie.Need-part-fill-match-ranks-start
-part-fill-match-ranks-start c = span-order (known (at5 c) .cl-run)
+part-fill-match-ranks-start c = span-order (known (at-ar c) .cl-run)
 
 part-fill-match-ranks-end : tie.Need-part-fill-match-ranks-end
-part-fill-match-ranks-end c = span-end (front5 c) (known (at5 c) .cl-run)
+part-fill-match-ranks-end c = span-end (front-ar c) (known (at-ar c) .cl-run)
 
 fill-match-ranks-requires : tie.Need-fill-match-ranks-requires
-fill-match-ranks-requires c κs = (fits (at5 (c .before)) .m1<, fits (at5 (c .before)) .n2<, span-length (front5 (c .before)) (known (at5 (c .before)) .cl-run))
+fill-match-ranks-requires c κs = (fits (at-ar (c .before)) .m1<, fits (at-ar (c .before)) .n2<, span-length (front-ar (c .before)) (known (at-ar (c .before)) .cl-run))
 
 sub-fill-match-ranks-2 : tie.Need-sub-fill-match-ranks-2
-sub-fill-match-ranks-2 c = span-order (known (at6 c) .cr-run)
+sub-fill-match-ranks-2 c = span-order (known (at-cl c) .cr-run)
 
 part-fill-match-ranks-start-2 : tie.Need-part-fill-match-ranks-start-2
-part-fill-match-ranks-start-2 c = span-order (known (at6 c) .cr-run)
+part-fill-match-ranks-start-2 c = span-order (known (at-cl c) .cr-run)
 
 part-fill-match-ranks-end-2 : tie.Need-part-fill-match-ranks-end-2
-part-fill-match-ranks-end-2 c = span-end (front6 c) (known (at6 c) .cr-run)
+part-fill-match-ranks-end-2 c = span-end (front-cl c) (known (at-cl c) .cr-run)
 
 fill-match-ranks-requires-2 : tie.Need-fill-match-ranks-requires-2
-fill-match-ranks-requires-2 c κs = (fits (at6 (c .before)) .m2<, fits (at6 (c .before)) .n1<, span-length (front6 (c .before)) (known (at6 (c .before)) .cr-run))
+fill-match-ranks-requires-2 c κs = (fits (at-cl (c .before)) .m2<, fits (at-cl (c .before)) .n1<, span-length (front-cl (c .before)) (known (at-cl (c .before)) .cr-run))
 
 same-length : tie.Need-same-length
-same-length c = front7 c .len
+same-length c = front-cr c .len
 
 returns : tie.Need-returns
 unfolding certificateFile
-returns c = front-put (front7 c)
+returns c = front-put (front-cr c)
 
 pub write-parts-spec : {M : Type 1} → statement M
 write-parts-spec =
