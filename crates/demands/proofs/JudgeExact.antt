@@ -81,13 +81,13 @@ module _ (left right c : List ℕ) (bytes : AreBytes c) where
         )
 
     -- the judge accepts where the theory's does
-    accepts-code : T (accepts (view left right c) (ranks left right c)) → judgeAnswer left right c .code ≡ 0
+    pub accepts-code : T (accepts (view left right c) (ranks left right c)) → judgeAnswer left right c .code ≡ 0
     accepts-code h =
         let p = accepts-is .0 h in
         ap (λ (a : Answer). a .code) (verdict-is left right c w (p .0) ∙ ap (verdictAnswer (view left right c) (ranks left right c) (pairsIn (rowsPart c (sizesOf left right)) (statesOf left))) (p .1))
 
   -- and only there
-  code-accepts : judgeAnswer left right c .code ≡ 0 → (w : AllWellFormed left right c) × T (accepts (view left right c) (ranks left right c))
+  pub code-accepts : judgeAnswer left right c .code ≡ 0 → (w : AllWellFormed left right c) × T (accepts (view left right c) (ranks left right c))
   code-accepts e = let q = accepted-case left right c e in (q .0, accepts-is (q .0) .1 (q .1, q .2))
 
   -- ---- the counts

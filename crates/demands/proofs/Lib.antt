@@ -4,4 +4,6 @@ pub mod CountLaws
 pub mod JudgeCases
 pub mod JudgeConditions
 pub mod JudgeExact
+pub mod AgreeLaws
+pub mod RelationsExact
 pub mod UnrelatedRanks

@@ -11,12 +11,12 @@ use Rattle.lists.specs.Lists.{tabulate, grid, putFront}
 use Rattle.lists.specs.Numbers.{byteAt, bigEndian, bigBytes}
 use Rattle.lists.proofs.FillLaws.{length-grid, getD-grid, put-front-fits, part-length}
 use Rattle.bisimulation.specs.Systems.{Ranks, Bytes}
-use Rattle.tables.specs.Conditions.{NoneApplies}
+use Rattle.tables.specs.Conditions.{NoneApplies, MagicFits}
 use Rattle.certificates.specs.declared.Sizes.{Sizes}
 use Rattle.certificates.specs.declared.CertificateRead.the-variants as read
 use Rattle.certificates.specs.Layout.{certificateLength, rowsAt, alAt, arAt, clAt, crAt, rowsPart}
 use Rattle.certificates.specs.Certificate.{readCertificate}
-use Rattle.certificates.specs.CertificateConditions.{MagicFits, certificateCauses}
+use Rattle.certificates.specs.CertificateConditions.{certificateCauses}
 use Rattle.certificates.specs.CertificateConditions as conditions
 use Rattle.certificates.specs.CertificateModel.{AreBytes, ranksOf}
 use Rattle.certificates.proofs.LayoutLaws.{runs-follow, al-inside, ar-inside, cl-inside, cr-inside}
@@ -187,7 +187,7 @@ module _ (z : Sizes) (rows : List ℕ) (r : Ranks) (full : length rows ≡ 8 * z
   unfolding certificateFile certificateHeader bigBytes bigEndian
   file-sizes = (refl, refl, two-bytes (z .m1) (fit .m1<), two-bytes (z .m2) (fit .m2<))
 
-  file-magic : MagicFits (certificateFile z rows r)
+  file-magic : MagicFits 0x43 (certificateFile z rows r)
   unfolding certificateFile certificateHeader
   file-magic = (refl, refl, refl)
 
