@@ -6,4 +6,5 @@ pub mod JudgeConditions
 pub mod JudgeExact
 pub mod AgreeLaws
 pub mod RelationsExact
+pub mod RankWords
 pub mod UnrelatedRanks

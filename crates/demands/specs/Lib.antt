@@ -1,3 +1,4 @@
 pub mod Checks
 pub mod Judged
+pub mod Ranks
 pub mod Demand2
