@@ -7,4 +7,5 @@ pub mod JudgeExact
 pub mod AgreeLaws
 pub mod RelationsExact
 pub mod RankWords
+pub mod StarredExamples
 pub mod UnrelatedRanks

@@ -2,3 +2,4 @@ pub mod Checks
 pub mod Judged
 pub mod Ranks
 pub mod Demand2
+pub mod Examples

@@ -1,0 +1,39 @@
+-- The bench examples of document 01, as bytes.
+use Prim.Native.Nat.{ℕ}
+use mathlib.Core.List.{List, [], _∷_, _++_}
+use Rattle.tables.specs.declared.Answer.{Answer}
+
+-- Six numbers.
+abbrev pub six : ℕ → ℕ → ℕ → ℕ → ℕ → ℕ → Answer
+six code file a b c d = record { code = code; file = file; a = a; b = b; c = c; d = d }
+
+-- P: 2 states, start 0, marks 0 1, steps 0-1, 1-0. Q: 3 states, start 0, marks 0 0 1, steps 0-1, 1-2, 2-0.
+abbrev pub P : List ℕ
+P = 0x54 ∷ 0x50 ∷ 0x54 ∷ 0 ∷ 1 ∷ 2 ∷ 0 ∷ 0 ∷ 2 ∷ 0 ∷ 0 ∷ 0 ∷ 1 ∷ 0 ∷ 1 ∷ 1 ∷ 0 ∷ []
+
+abbrev pub Q : List ℕ
+Q = 0x54 ∷ 0x50 ∷ 0x54 ∷ 0 ∷ 1 ∷ 3 ∷ 0 ∷ 0 ∷ 3 ∷ 0 ∷ 0 ∷ 0 ∷ 0 ∷ 0 ∷ 1 ∷ 0 ∷ 1 ∷ 1 ∷ 2 ∷ 2 ∷ 0 ∷ []
+
+-- A row of 64 bits whose low byte is b.
+abbrev pub low : ℕ → List ℕ
+low b = 0 ∷ 0 ∷ 0 ∷ 0 ∷ 0 ∷ 0 ∷ 0 ∷ b ∷ []
+
+-- A certificate of P and Q with these two rows, with AR(0, 0) and CL(step 0, 0), other ranks 0: AL has 6 bytes, AR 6, CL 6 and CR 6.
+abbrev pub certificate : ℕ → ℕ → ℕ → ℕ → List ℕ
+certificate row0 row1 ar cl =
+    (0x54 ∷ 0x50 ∷ 0x43 ∷ 0 ∷ 1 ∷ 2 ∷ 3 ∷ 0 ∷ 2 ∷ 0 ∷ 3 ∷ []) ++ low row0 ++ low row1
+    ++ (0 ∷ 0 ∷ 0 ∷ 0 ∷ 0 ∷ 0 ∷ ar ∷ 0 ∷ 0 ∷ 0 ∷ 0 ∷ 0 ∷ cl ∷ 0 ∷ 0 ∷ 0 ∷ 0 ∷ 0 ∷ 0 ∷ 0 ∷ 0 ∷ 0 ∷ 0 ∷ 0 ∷ [])
+
+-- K has AR(0, 0) = 1, CL(step 0, 0) = 1, other ranks 0, and the rows 3 and 4; 51 bytes.
+abbrev pub K : List ℕ
+K = certificate 3 4 1 1
+
+-- One state, mark 0, and no step; the same with step 0-0; and a certificate of the first with itself, row 1.
+abbrev pub still : List ℕ
+still = 0x54 ∷ 0x50 ∷ 0x54 ∷ 0 ∷ 1 ∷ 1 ∷ 0 ∷ 0 ∷ 0 ∷ 0 ∷ 0 ∷ []
+
+abbrev pub looping : List ℕ
+looping = 0x54 ∷ 0x50 ∷ 0x54 ∷ 0 ∷ 1 ∷ 1 ∷ 0 ∷ 0 ∷ 1 ∷ 0 ∷ 0 ∷ 0 ∷ 0 ∷ []
+
+abbrev pub stillCertificate : List ℕ
+stillCertificate = (0x54 ∷ 0x50 ∷ 0x43 ∷ 0 ∷ 1 ∷ 1 ∷ 1 ∷ 0 ∷ 0 ∷ 0 ∷ 0 ∷ []) ++ low 1 ++ (0 ∷ 0 ∷ [])
