@@ -52,6 +52,15 @@ pub record RanksAgree (z : Sizes) (q r : Ranks) : Type 0 where
   pub stutter′ : (t s : ℕ) → t < z .n2 → s < z .n1 → q .stutter′ t s ≡ r .stutter′ t s
   pub match′ : (j s : ℕ) → j < z .m2 → s < z .n1 → q .match′ j s ≡ r .match′ j s
 
+pub agree-trans : {z : Sizes} {p q r : Ranks} → RanksAgree z p q → RanksAgree z q r → RanksAgree z p r
+agree-trans a b =
+    record {
+      stutter = λ s t h k. a .stutter s t h k ∙ b .stutter s t h k;
+      match = λ j t h k. a .match j t h k ∙ b .match j t h k;
+      stutter′ = λ t s h k. a .stutter′ t s h k ∙ b .stutter′ t s h k;
+      match′ = λ j s h k. a .match′ j s h k ∙ b .match′ j s h k;
+    }
+
 -- ---- where each part ends
 
 pub header-length : (z : Sizes) → length (certificateHeader z) ≡ 11

@@ -22,11 +22,11 @@ abbrev pub tablesOf : (words chains distances : List ℕ) → Tables
 tablesOf words chains distances = record { words = words; chains = chains; distances = distances }
 
 -- The stutter rank of s and t, by the word of s: the chain length where they are related, else 0.
-unfoldable pub stutterRank : (word : ℕ) (chains : List ℕ) → ℕ → ℕ → ℕ
-stutterRank word chains s t = cond (hasBit word t) (byteAt chains (t * 64 + s)) 0
+unfoldable pub stutterBy : (word : ℕ) (chains : List ℕ) → ℕ → ℕ → ℕ
+stutterBy word chains s t = cond (hasBit word t) (byteAt chains (t * 64 + s)) 0
 
 abbrev pub stutterFrom : (words chains : List ℕ) → ℕ → ℕ → ℕ
-stutterFrom words chains s t = stutterRank (getD words s 0) chains s t
+stutterFrom words chains s t = stutterBy (getD words s 0) chains s t
 
 -- The match rank of step j at t, one of the other side's n states: the distance where the step is matched, else 0.
 unfoldable pub matchFrom : (distances : List ℕ) → ℕ → ℕ → ℕ → ℕ

@@ -8,7 +8,7 @@ ghost use lib.ListN.{length, getD};
 ghost use Rattle.lists.specs.Lists.{tabulate, grid, putFront};
 ghost use Rattle.certificates.specs.Layout.{certificateLength};
 ghost use Rattle.files.specs.File.{certificateHeader, certificateFile};
-ghost use Rattle.files.specs.Writer.{tablesOf, stutterRank, stutterFrom, matchFrom, ranksFrom, fileWritten};
+ghost use Rattle.files.specs.Writer.{tablesOf, stutterBy, stutterFrom, matchFrom, ranksFrom, fileWritten};
 
 // The states related to s; past the end there are none.
 fn word(words: &[u64], s: usize) -> Row
@@ -24,7 +24,7 @@ fn word(words: &[u64], s: usize) -> Row
 // The stutter rank of s and t, where `states` are those related to s.
 fn stutter_rank(states: Row, chains: &[u8], s: usize, t: usize) -> u8
     requires { ⌜ (s < 256) × (t < 256) ⌝ }
-    ensures { λ r. ⌜ r ≡ stutterRank (states .0) (now (chains .entry)) s t ⌝ }
+    ensures { λ r. ⌜ r ≡ stutterBy (states .0) (now (chains .entry)) s t ⌝ }
 {
     if states.has(t) {
         byte(chains, t * 64 + s) as u8
@@ -36,7 +36,7 @@ fn stutter_rank(states: Row, chains: &[u8], s: usize, t: usize) -> u8
 // The stutter ranks of s, one for each state of the other side.
 fn put_stutter_ranks(states: Row, chains: &[u8], s: usize, row: &mut [u8])
     requires { ⌜ (s < 256) × (length (now row) < 256) ⌝ }
-    ensures { λ _. ⌜ now (row .exit) ≡ tabulate (length (now (row .entry))) (stutterRank (states .0) (now (chains .entry)) s) ⌝ }
+    ensures { λ _. ⌜ now (row .exit) ≡ tabulate (length (now (row .entry))) (stutterBy (states .0) (now (chains .entry)) s) ⌝ }
 {
     let mut t: usize = 0;
     while t < row.len() {
