@@ -139,8 +139,11 @@ module _ (z : Sizes) (rows : List ℕ) (r : Ranks) (full : length rows ≡ 8 * z
   -- ---- a list whose first L bytes are the file
 
   module _ (c : List ℕ) (holds : certificateIn z c ≡ certificateFile z rows r) where
+    pub length-in-file : length (certificateIn z c) ≡ certificateLength z
+    length-in-file = ap length holds ∙ file-length
+
     pub file-fits : certificateLength z ≤ length c
-    file-fits = omega (arith, sym (length-take (certificateLength z) c) ∙ ap length holds ∙ file-length)
+    file-fits = omega (arith, sym (length-take (certificateLength z) c) ∙ length-in-file)
 
     file-byte : (i : ℕ) → i < certificateLength z → byteAt c i ≡ byteAt (certificateFile z rows r) i
     file-byte i h = sym (getD-take (certificateLength z) c i 0 h) ∙ ap (λ (l : List ℕ). byteAt l i) holds

@@ -46,6 +46,7 @@ front-put {p} {d} {l} {a} w = w .eq ∙ ap (λ (k : ℕ). p ++ drop k d) (sym (w
 
 -- ---- the parts of a certificate
 
+-- The header, the rows and the four runs, each where the one before ends.
 pub record Spans (z : Sizes) (d : List ℕ) (rows al ar cl cr end : ℕ) : Type 0 where
   pub header : Span 0 rows 11 d
   pub rows-run : Span rows al (8 * z .n1) d

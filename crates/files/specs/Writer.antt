@@ -18,6 +18,7 @@ pub record Tables : Type 0 where
   pub chains : List ℕ
   pub distances : List ℕ
 
+-- The tables with these words, chain lengths and distances.
 abbrev pub tablesOf : (words chains distances : List ℕ) → Tables
 tablesOf words chains distances = record { words = words; chains = chains; distances = distances }
 
@@ -25,6 +26,7 @@ tablesOf words chains distances = record { words = words; chains = chains; dista
 unfoldable pub stutterBy : (word : ℕ) (chains : List ℕ) → ℕ → ℕ → ℕ
 stutterBy word chains s t = cond (hasBit word t) (byteAt chains (t * 64 + s)) 0
 
+-- The stutter rank of s and t, by the words of all own states.
 abbrev pub stutterFrom : (words chains : List ℕ) → ℕ → ℕ → ℕ
 stutterFrom words chains s t = stutterBy (getD words s 0) chains s t
 

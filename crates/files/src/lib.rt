@@ -141,7 +141,9 @@ fn write_parts(
 )
     requires { ⌜ length (now relation) ≡ 8 * sizes .n1 ⌝ }
     requires { ⌜ certificateLength sizes ≤ length (now output) ⌝ }
-    ensures { λ _. ⌜ now (output .exit) ≡ putFront (certificateFile sizes (now (relation .entry)) (ranksFrom sizes (tablesOf (now (words1 .entry)) (now (chains1 .entry)) (now (distances1 .entry))) (tablesOf (now (words2 .entry)) (now (chains2 .entry)) (now (distances2 .entry))))) (now (output .entry)) ⌝ }
+    ensures { λ _. ⌜ now (output .exit) ≡ putFront (certificateFile sizes (now (relation .entry)) (ranksFrom sizes
+        (tablesOf (now (words1 .entry)) (now (chains1 .entry)) (now (distances1 .entry)))
+        (tablesOf (now (words2 .entry)) (now (chains2 .entry)) (now (distances2 .entry))))) (now (output .entry)) ⌝ }
 {
     let n1 = sizes.n1 as usize;
     let n2 = sizes.n2 as usize;
@@ -174,7 +176,9 @@ pub fn write_certificate(
     distances2: &[u8],
     output: &mut [u8],
 )
-    ensures { λ _. ⌜ now (output .exit) ≡ fileWritten sizes (now (relation .entry)) (ranksFrom sizes (tablesOf (now (words1 .entry)) (now (chains1 .entry)) (now (distances1 .entry))) (tablesOf (now (words2 .entry)) (now (chains2 .entry)) (now (distances2 .entry)))) (now (output .entry)) ⌝ }
+    ensures { λ _. ⌜ now (output .exit) ≡ fileWritten sizes (now (relation .entry)) (ranksFrom sizes
+        (tablesOf (now (words1 .entry)) (now (chains1 .entry)) (now (distances1 .entry)))
+        (tablesOf (now (words2 .entry)) (now (chains2 .entry)) (now (distances2 .entry)))) (now (output .entry)) ⌝ }
 {
     if relation.len() != Sizes::ROW * sizes.n1 as usize {
         return;
