@@ -487,7 +487,7 @@ fn judge_read(left: &[u8], right: &[u8], certificate: &[u8], s: usize, t: usize)
 }
 
 // The answer of a table's read that is no header; for a header it is blank.
-fn table_answer(read: TableRead, file: usize) -> Answer
+pub fn table_answer(read: TableRead, file: usize) -> Answer
     ensures { λ r. ⌜ r ≡ tableThen read file blank ⌝ }
 {
     let TableRead::Refused(refusal) = read else {

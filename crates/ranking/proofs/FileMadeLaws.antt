@@ -19,7 +19,7 @@ use Rattle.lengths.specs.Chains.{chainBy}
 use Rattle.lengths.proofs.DistanceLaws.{match-rank-distance}
 use Rattle.lengths.proofs.LengthTableLaws.{cell-distance, cell-chain}
 use Rattle.files.specs.File.{certificateFile}
-use Rattle.files.specs.Writer.{Tables, tablesOf, stutterRank, stutterFrom, matchFrom, ranksFrom}
+use Rattle.files.specs.Writer.{Tables, tablesOf, stutterBy, stutterFrom, matchFrom, ranksFrom}
 
 -- ---- grids by their cells
 
@@ -42,7 +42,7 @@ pub record Measured (v : View) (own other : List ℕ) (words chains distances : 
 
 module _ (v : View) (own other words chains distances : List ℕ) (m : Measured v own other words chains distances) where
   pub stutter-made : (s t : ℕ) → s < v .own .states → t < v .other .states → stutterFrom words chains s t ≡ maker.stutterRank v s t
-  unfolding stutterRank maker.stutterRank
+  unfolding stutterBy maker.stutterRank
   stutter-made s t hs ht =
       let few = m .few in
       let few′ = m .few′ in

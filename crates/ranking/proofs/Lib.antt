@@ -1,1 +1,3 @@
 pub mod FileMadeLaws
+pub mod MakeAnswers
+pub mod MakeLaws

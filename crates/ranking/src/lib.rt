@@ -1,11 +1,31 @@
 // The maker: for any byte strings and any output its six numbers and every byte of the output. It reads, examines, and only then fills.
+use certificates::RelationRead;
+use certificates::Sizes;
+use certificates::read_relation;
+use checker::table_answer;
+use examination::Examined;
+use examination::Starts;
+use examination::examine;
+use files::write_certificate;
 use lengths::all_chains;
 use lengths::all_distances;
+use relations::column_words;
+use relations::row_words;
+use tables::Answer;
+use tables::TableRead;
+use tables::read_table;
+use tables::steps;
 ghost use mathlib.Core.Path.{_≡_};
 ghost use Rattle.lists.specs.Lists.{grid};
 ghost use Rattle.lengths.specs.Side.{sideOf};
 ghost use Rattle.lengths.specs.Cells.{distanceAt};
 ghost use Rattle.lengths.specs.Chains.{chainBy};
+ghost use Prim.Native.Nat.{_≤_};
+ghost use lib.ListN.{length};
+ghost use Rattle.tables.specs.Table.{startOf};
+ghost use Rattle.certificates.specs.Layout.{sizesOf, certificateLength};
+ghost use Rattle.checker.specs.Judge.{blank};
+ghost use Rattle.ranking.specs.Make.{relationThen, DrawingRead, fileFor, madeAnswer, outputAfter, makeAnswer, makeOutput};
 
 // The match distances and the chain lengths of a side: that of step j at t stands at 64 j + t, that at t from s at 64 t + s.
 struct Measures {
@@ -23,4 +43,111 @@ fn measure(related: &[u64], own: &[u8], other: &[u8], n: u8, k: u8) -> Measures
     let longest = all_chains(related, own, &distances, n, k);
     let chains = longest.at;
     Measures { distances, chains }
+}
+
+// The answer of a relation's read that is refused; for any other it is blank.
+fn relation_answer(read: RelationRead) -> Answer
+    ensures { λ r. ⌜ r ≡ relationThen read blank ⌝ }
+{
+    let RelationRead::Refused(refusal) = read else {
+        return Answer {
+            code: 0,
+            file: 0,
+            a: 0,
+            b: 0,
+            c: 0,
+            d: 0,
+        };
+    };
+    refusal.answer(2)
+}
+
+// The answer where both tables and the relation are read and the output has room: what the examination refuses, or the file and its length.
+fn make_read(left: &[u8], right: &[u8], drawing: &[u8], starts: Starts, output: &mut [u8]) -> Answer
+    requires { ⌜ DrawingRead (now left) (now right) (now drawing) × (starts .left ≡ startOf (now left)) × (starts .right ≡ startOf (now right)) × (certificateLength (sizesOf (now left) (now right)) ≤ length (now output)) ⌝ }
+    ensures value { λ r. ⌜ r ≡ madeAnswer (now (left .entry)) (now (right .entry)) (now (drawing .entry)) ⌝ }
+    ensures written { λ _. ⌜ now (output .exit) ≡ outputAfter (madeAnswer (now (left .entry)) (now (right .entry)) (now (drawing .entry))) (fileFor (now (left .entry)) (now (right .entry)) (now (drawing .entry))) (now (output .entry)) ⌝ }
+{
+    let sizes = Sizes::of(left, right);
+    let rows = row_words(drawing, sizes.n1 as usize);
+    let columns = column_words(&rows);
+    let ours = measure(&rows, steps(left), steps(right), sizes.n2, sizes.n1);
+    let theirs = measure(&columns, steps(right), steps(left), sizes.n1, sizes.n2);
+    let distances = ours.distances;
+    let chains = ours.chains;
+    let others = theirs.distances;
+    let loops = theirs.chains;
+    let examined = examine(
+        left,
+        right,
+        &rows,
+        &columns,
+        &distances,
+        &others,
+        &chains,
+        &loops,
+        starts,
+    );
+    match examined {
+        Examined::Stopped(answer) => answer,
+        Examined::Passed => {
+            write_certificate(
+                drawing,
+                sizes,
+                &rows,
+                &chains,
+                &distances,
+                &columns,
+                &loops,
+                &others,
+                output,
+            );
+            Answer {
+                code: 0,
+                file: 0,
+                a: sizes.length(),
+                b: 0,
+                c: 0,
+                d: 0,
+            }
+        }
+    }
+}
+
+// The maker: for any byte strings and any output, the six numbers of its answer; the output gets the certificate, or stays as it was.
+pub fn make(left: &[u8], right: &[u8], relation: &[u8], output: &mut [u8]) -> Answer
+    ensures value { λ r. ⌜ r ≡ makeAnswer (now (left .entry)) (now (right .entry)) (now (relation .entry)) (now (output .entry)) ⌝ }
+    ensures written { λ _. ⌜ now (output .exit) ≡ makeOutput (now (left .entry)) (now (right .entry)) (now (relation .entry)) (now (output .entry)) ⌝ }
+{
+    let first = read_table(left);
+    let TableRead::Good(ours) = first else {
+        return table_answer(first, 0);
+    };
+    let second = read_table(right);
+    let TableRead::Good(theirs) = second else {
+        return table_answer(second, 1);
+    };
+    let sizes = Sizes::of(left, right);
+    let third = read_relation(relation, sizes);
+    let RelationRead::Good(_) = third else {
+        return relation_answer(third);
+    };
+    let length = sizes.length();
+    if output.len() < length {
+        return Answer {
+            code: 21,
+            file: 3,
+            a: length,
+            b: 0,
+            c: 0,
+            d: 0,
+        };
+    }
+    let s = ours.initial;
+    let t = theirs.initial;
+    let starts = Starts {
+        left: s.first(),
+        right: t.first(),
+    };
+    make_read(left, right, relation, starts, output)
 }

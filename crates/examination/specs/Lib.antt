@@ -1,0 +1,2 @@
+pub mod Examine
+pub mod Walk

@@ -1,0 +1,75 @@
+-- The examination as it is read off two tables, the words of their relation, and the tables of match distances and chain lengths; with the verdicts
+-- of a pair, of a left state and of all pairs, in the order of the walk.
+use Prim.Native.Nat.{ℕ, _+_, _*_}
+use mathlib.Core.Bool.{Bool, true, cond, not, _&&_, _||_}
+use mathlib.Core.List.{List, map}
+use lib.Dec.{ltb, leb, eqb}
+use lib.ListN.{getD}
+use Rattle.lists.specs.Numbers.{byteAt}
+use Rattle.words.specs.Bits.{hasBit}
+use Rattle.bisimulation.specs.Systems.{System, View}
+use Rattle.tables.specs.Table.{statesOf, stepsPart, fromOf, toOf}
+use Rattle.tables.specs.Model.{systemOf}
+use Rattle.tables.specs.declared.Answer.{Answer}
+use Rattle.obligations.specs.Judging.{checks, Verdict, accepted, refusedWith}
+use Rattle.examination.specs.declared.Examined.{Examined}
+use Rattle.examination.specs.declared.Examined.the-variants.{Passed, Stopped}
+use Rattle.examination.specs.declared.Starts.{Starts}
+use Rattle.examination.specs.Examine.{followedBy, firstStop, firstOf, labelsAnswer, stepAnswer, resultBy, firstChain, startsVerdict}
+
+abbrev pub asExamined : Verdict → Examined
+asExamined accepted = Passed
+asExamined (refusedWith answer) = Stopped answer
+
+-- ---- what is read off
+
+-- Two tables, and the relation that the words hold.
+abbrev pub wordsView : (left right words : List ℕ) → View
+wordsView left right words = record { own = systemOf left; other = systemOf right; related = λ s t. hasBit (getD words s 0) t; answers = λ j k. true }
+
+-- The table's step j may be kept at t: its distance is below the number n of the other side's states, or the state that it enters is related to t.
+unfoldable pub answeredBy : (table words distances : List ℕ) → ℕ → ℕ → ℕ → Bool
+answeredBy table words distances n j t = ltb (byteAt distances (j * 64 + t)) n || hasBit (getD words (toOf (stepsPart table) j) 0) t
+
+-- It leaves s, and may not be kept.
+unfoldable pub unansweredBy : (table words distances : List ℕ) → ℕ → ℕ → ℕ → ℕ → Bool
+unansweredBy table words distances n s t j = eqb (fromOf (stepsPart table) j) s && not (answeredBy table words distances n j t)
+
+-- The word of the fixed state b has c, and the chain length at b from c is n or more.
+unfoldable pub longBy : (words chains : List ℕ) → ℕ → ℕ → ℕ → Bool
+longBy words chains n b c = hasBit (getD words b 0) c && leb n (byteAt chains (b * 64 + c))
+
+-- ---- the walk
+
+-- An acceptance where the test holds.
+abbrev pub verdictIf : Bool → Answer → Verdict
+verdictIf b answer = cond b accepted (refusedWith answer)
+
+-- The steps from s that the test refuses.
+unfoldable pub stepsVerdict : System → (ℕ → Bool) → ℕ → (ℕ → Answer) → Verdict
+stepsVerdict S keeps s answer = firstOf (S .steps) (λ j. cond (eqb (S .from j) s) (verdictIf (keeps j) (answer j)) accepted)
+
+module _ (v : View) (left right : ℕ → ℕ → Bool) where
+  unfoldable pub pairVerdict : ℕ → ℕ → Verdict
+  pairVerdict s t =
+      followedBy (verdictIf (eqb (v .own .label s) (v .other .label t)) (labelsAnswer s t))
+      (followedBy (stepsVerdict (v .own) (λ j. left j t) s (stepAnswer 0 s t))
+      (stepsVerdict (v .other) (λ j. right j s) t (stepAnswer 1 s t)))
+
+  unfoldable pub rowVerdict : ℕ → Verdict
+  rowVerdict s = firstOf (v .other .states) (λ t. cond (v .related s t) (pairVerdict s t) accepted)
+
+  unfoldable pub pairsVerdict : Verdict
+  pairsVerdict = firstOf (v .own .states) rowVerdict
+
+-- ---- all of it
+
+-- `rows` has a word for each left state and `columns` one for each right state; distances and chains of the left steps come first.
+unfoldable pub examinedBy : (left right rows columns distances distances′ chains chains′ : List ℕ) → Starts → Verdict
+examinedBy left right rows columns distances distances′ chains chains′ starts =
+    let v = wordsView left right rows in
+    let n1 = statesOf left in
+    let n2 = statesOf right in
+    followedBy (startsVerdict v (starts .left) (starts .right))
+    (followedBy (firstStop (map (resultBy v (answeredBy left rows distances n2) (answeredBy right columns distances′ n1)) (checks v)))
+    (followedBy (firstChain 0 n2 n1 (longBy columns chains n1)) (firstChain 1 n1 n2 (longBy rows chains′ n2))))

@@ -1,0 +1,186 @@
+-- `ranking::make_read` meets its contract: what the examination refuses is answered, and only where it passes the file is written. Assumes nothing.
+use mathlib.Core.Path.{_≡_, refl, sym, ap, _∙_}
+use native.Mathlib.Omega.{arith}
+use lib.ListN.{length}
+use denote.Ref.{now}
+use Rattle.lists.specs.Lists.{putFront}
+use Rattle.lists.proofs.FillLaws.{length-grid}
+use mathlib.Core.List.{List}
+use Prim.Native.Nat.{ℕ, _*_}
+use Rattle.tables.specs.Answers.{refusal}
+use Rattle.certificates.specs.declared.Sizes.{Sizes}
+use Rattle.certificates.specs.Layout.{certificateLength}
+use Rattle.certificates.specs.CertificateModel.{AreBytes}
+use Rattle.certificates.proofs.CertificateLaws.{relation-ok}
+use Rattle.relations.proofs.RelationLaws.{rows-length, columns-length}
+use Rattle.files.proofs.WriterLaws.{written-front}
+use Rattle.examination.proofs.VerdictLaws.{was-accepted, was-refused}
+use Rattle.ranking.proofs.MakeLaws.{Worked, worked, examined-is, written-is, stopped-answer, stopped-output, passed-answer, passed-output}
+use borrow.Author.Needs.{needs}
+use Rattle.ranking.proofs.make_read.Statement.{statement}
+use Rattle.ranking.proofs.make_read.Tie as tie
+
+-- what was worked out before the examination
+drawing-bytes : (c : tie.After-rows3) → AreBytes (now (c .before .before .before .before .before .before .before .before .before .before .before .before .before .before .before .before .before .before .before .before .before .before .args .drawing))
+drawing-bytes c = λ i. omega (arith, c .before .before .before .before .before .before .before .before .before .before .before .before .before .before .before .before .before .before .before .shared-slice-known3 .given i)
+
+work : (c : tie.After-rows3) → let a = c .before .before .before .before .before .before .before .before .before .before .before .before .before .before .before .before .before .before .before .before .before .before .args in
+    Worked (now (a .left)) (now (a .right)) (now (a .drawing)) (c .before .before .before .before .before .before .before .before .before .before .before .before .before .before .before .before .before .before .before .before .before .before .pre .0) (drawing-bytes c) (c .before .before .before .before .before .before .before .before .before .before .before .before .before .before .before .row-words .result) (c .before .before .before .before .before .before .before .before .before .before .before .before .before .column-words .result) (c .before .before .before .before .before .before .before .before .before .measure .result .distances) (c .before .before .before .before .before .measure2 .result .distances) (c .before .before .before .before .before .before .before .before .before .measure .result .chains) (c .before .before .before .before .before .measure2 .result .chains)
+work c =
+    let a = c .before .before .before .before .before .before .before .before .before .before .before .before .before .before .before .before .before .before .before .before .before .before .args in
+    worked (now (a .left)) (now (a .right)) (now (a .drawing)) (c .before .before .before .before .before .before .before .before .before .before .before .before .before .before .before .before .before .before .before .before .before .before .pre .0) (drawing-bytes c) (c .before .before .before .before .before .before .before .before .before .before .before .before .before .before .before .before .before .of .ensures) (c .before .before .before .before .before .before .before .before .before .before .before .before .before .before .before .row-words .ensures) (c .before .before .before .before .before .before .before .before .before .before .before .before .before .column-words .ensures) (c .before .before .before .before .before .before .before .before .before .before .before .steps .ensures) (c .before .before .before .before .before .before .before .before .before .before .steps2 .ensures) (c .before .before .before .before .before .before .before .steps3 .ensures) (c .before .before .before .before .before .before .steps4 .ensures)
+    (c .before .before .before .before .before .before .before .before .before .measure .ensures .0) (c .before .before .before .before .before .before .before .before .before .measure .ensures .1) (c .before .before .before .before .before .measure2 .ensures .0) (c .before .before .before .before .before .measure2 .ensures .1)
+
+of-requires : tie.Need-of-requires
+of-requires c κs = search needs
+
+cast-row-words : tie.Need-cast-row-words
+cast-row-words c = search needs
+
+row-words-requires : tie.Need-row-words-requires
+row-words-requires c κs = search needs
+
+slice-aggregate-column-words : tie.Need-slice-aggregate-column-words
+slice-aggregate-column-words c = search needs
+
+column-words-requires : tie.Need-column-words-requires
+column-words-requires c κs = search needs
+
+slice-aggregate-measure : tie.Need-slice-aggregate-measure
+slice-aggregate-measure c = search needs
+
+steps-requires : tie.Need-steps-requires
+steps-requires c κs = search needs
+
+steps-requires-2 : tie.Need-steps-requires-2
+steps-requires-2 c κs = search needs
+
+measure-requires : tie.Need-measure-requires
+measure-requires c κs = search needs
+
+slice-aggregate-measure-2 : tie.Need-slice-aggregate-measure-2
+slice-aggregate-measure-2 c = search needs
+
+steps-requires-3 : tie.Need-steps-requires-3
+steps-requires-3 c κs = search needs
+
+steps-requires-4 : tie.Need-steps-requires-4
+steps-requires-4 c κs = search needs
+
+measure-requires-2 : tie.Need-measure-requires-2
+measure-requires-2 c κs = search needs
+
+slice-aggregate-examine : tie.Need-slice-aggregate-examine
+slice-aggregate-examine c = sym (ap length (c .before .before .before .before .before .before .before .before .before .before .before .before .before .before .before .row-words .ensures) ∙ rows-length _ _)
+
+slice-aggregate-examine-2 : tie.Need-slice-aggregate-examine-2
+slice-aggregate-examine-2 c = sym (ap length (c .before .before .before .before .before .before .before .before .before .before .before .before .before .before .column-words .ensures) ∙ columns-length _)
+
+slice-aggregate-examine-3 : tie.Need-slice-aggregate-examine-3
+slice-aggregate-examine-3 c = search needs
+
+slice-aggregate-examine-4 : tie.Need-slice-aggregate-examine-4
+slice-aggregate-examine-4 c = search needs
+
+slice-aggregate-examine-5 : tie.Need-slice-aggregate-examine-5
+slice-aggregate-examine-5 c = sym (ap length (c .before .before .before .before .before .before .before .before .before .before .before .before .before .measure .ensures .1) ∙ length-grid 64 64 _)
+
+slice-aggregate-examine-6 : tie.Need-slice-aggregate-examine-6
+slice-aggregate-examine-6 c = search needs
+
+examine-requires : tie.Need-examine-requires
+examine-requires c κs = search needs
+
+enum-known-examined : tie.Need-enum-known-examined
+enum-known-examined c = search needs
+
+enum-told : tie.Need-enum-told
+enum-told c = search needs
+
+slice-aggregate-write-certificate : tie.Need-slice-aggregate-write-certificate
+slice-aggregate-write-certificate c = sym (ap length (c .before .before .before .before .before .before .before .before .before .before .before .before .before .before .before .before .before .before .before .before .before .before .before .before .row-words .ensures) ∙ rows-length _ _)
+
+slice-aggregate-write-certificate-2 : tie.Need-slice-aggregate-write-certificate-2
+slice-aggregate-write-certificate-2 c = sym (ap length (c .before .before .before .before .before .before .before .before .before .before .before .before .before .before .before .before .before .before .before .measure .ensures .1) ∙ length-grid 64 64 _)
+
+slice-aggregate-write-certificate-3 : tie.Need-slice-aggregate-write-certificate-3
+slice-aggregate-write-certificate-3 c = sym (ap length (c .before .before .before .before .before .before .before .before .before .before .before .before .before .before .before .before .before .before .before .before .measure .ensures .0) ∙ length-grid 256 64 _)
+
+slice-aggregate-write-certificate-4 : tie.Need-slice-aggregate-write-certificate-4
+slice-aggregate-write-certificate-4 c = sym (ap length (c .before .before .before .before .before .before .before .before .before .before .before .before .before .before .before .before .before .before .before .before .before .before .before .before .before .column-words .ensures) ∙ columns-length _)
+
+slice-aggregate-write-certificate-5 : tie.Need-slice-aggregate-write-certificate-5
+slice-aggregate-write-certificate-5 c = sym (ap length (c .before .before .before .before .before .before .before .before .before .before .before .before .before .before .before .before .before .before .measure2 .ensures .1) ∙ length-grid 64 64 _)
+
+slice-aggregate-write-certificate-6 : tie.Need-slice-aggregate-write-certificate-6
+slice-aggregate-write-certificate-6 c = sym (ap length (c .before .before .before .before .before .before .before .before .before .before .before .before .before .before .before .before .before .before .before .measure2 .ensures .0) ∙ length-grid 256 64 _)
+
+write-certificate-requires : tie.Need-write-certificate-requires
+write-certificate-requires c κs = search needs
+
+length-requires : tie.Need-length-requires
+length-requires c κs = search needs
+
+returns : tie.Need-returns
+returns c =
+    let a = c .before .before .before .before .before .before .before .before .before .before .before .before .before .before .before .before .before .before .before .before .before .before .before .before .before .before .before .before .before .before .before .args in
+    let p = c .before .before .before .before .before .before .before .before .before .before .before .before .before .before .before .before .before .before .before .before .before .before .before .before .before .before .before .before .before .before .before .pre in
+    let e = was-refused _ _ (sym (c .before .before .before .examine .ensures) ∙ c .before .examined .given .1) in
+    let q = sym (examined-is (now (a .left)) (now (a .right)) (now (a .drawing)) (p .0) (drawing-bytes (c .before .before .before .before .before .before .before .before .before)) (work (c .before .before .before .before .before .before .before .before .before)) (p .1) (p .2)) ∙ e in
+    (stopped-answer (now (a .left)) (now (a .right)) (now (a .drawing)) _ q, stopped-output (now (a .left)) (now (a .right)) (now (a .drawing)) _ q (now (a .output)))
+
+same-length : tie.Need-same-length
+same-length c = search needs
+
+returns-2 : tie.Need-returns-2
+returns-2 c =
+    let a = c .before .before .before .before .before .before .before .before .before .before .before .before .before .before .before .before .before .before .before .before .before .before .before .before .before .before .before .before .before .before .before .before .before .before .before .before .before .before .before .before .before .args in
+    let p = c .before .before .before .before .before .before .before .before .before .before .before .before .before .before .before .before .before .before .before .before .before .before .before .before .before .before .before .before .before .before .before .before .before .before .before .before .before .before .before .before .before .pre in
+    let w = work (c .before .before .before .before .before .before .before .before .before .before .before .before .before .before .before .before .before .before .before) in
+    let e = was-accepted _ (sym (c .before .before .before .before .before .before .before .before .before .before .before .before .before .examine .ensures) ∙ c .before .before .before .before .before .before .before .before .before .before .before .enum-told .given .1) in
+    let q = sym (examined-is (now (a .left)) (now (a .right)) (now (a .drawing)) (p .0) (drawing-bytes (c .before .before .before .before .before .before .before .before .before .before .before .before .before .before .before .before .before .before .before)) w (p .1) (p .2)) ∙ e in
+    let z = c .before .before .before .before .before .before .before .before .before .before .before .before .before .before .before .before .before .before .before .before .before .before .before .before .before .before .before .before .before .before .before .before .before .before .before .before .of .ensures in
+    let full = relation-ok _ (now (a .drawing)) (p .0 .drawing-good) .1 .long ∙ ap (λ (x : Sizes). 8 * x .n1) (sym z) in (
+      ap (refusal 0 0) (c .length .ensures ∙ ap certificateLength z) ∙ passed-answer (now (a .left)) (now (a .right)) (now (a .drawing)) q,
+      c .before .before .before .write-certificate .ensures ∙ written-front _ (now (a .drawing)) _ (now (a .output)) full
+          ∙ ap (λ (f : List ℕ). putFront f (now (a .output))) (written-is (now (a .left)) (now (a .right)) (now (a .drawing)) (p .0) (drawing-bytes (c .before .before .before .before .before .before .before .before .before .before .before .before .before .before .before .before .before .before .before)) w z)
+          ∙ passed-output (now (a .left)) (now (a .right)) (now (a .drawing)) q (now (a .output)),
+    )
+
+pub make-read-spec : {M : Type 1} → statement M
+make-read-spec =
+    tie.close
+    (tie.spec
+    of-requires
+    cast-row-words
+    row-words-requires
+    slice-aggregate-column-words
+    column-words-requires
+    slice-aggregate-measure
+    steps-requires
+    steps-requires-2
+    measure-requires
+    slice-aggregate-measure-2
+    steps-requires-3
+    steps-requires-4
+    measure-requires-2
+    slice-aggregate-examine
+    slice-aggregate-examine-2
+    slice-aggregate-examine-3
+    slice-aggregate-examine-4
+    slice-aggregate-examine-5
+    slice-aggregate-examine-6
+    examine-requires
+    enum-known-examined
+    enum-told
+    slice-aggregate-write-certificate
+    slice-aggregate-write-certificate-2
+    slice-aggregate-write-certificate-3
+    slice-aggregate-write-certificate-4
+    slice-aggregate-write-certificate-5
+    slice-aggregate-write-certificate-6
+    write-certificate-requires
+    length-requires
+    returns
+    same-length
+    returns-2)
