@@ -1,4 +1,4 @@
-/* The judge of stuttering certificates, for C. Link with libstutter.a, which `rt staticlib stutter` writes to target/staticlib. */
+/* The judge and the maker of stuttering certificates, for C. Link with libstutter.a, which `rt staticlib stutter` writes to target/staticlib. */
 #ifndef STUTTER_H
 #define STUTTER_H
 
@@ -39,6 +39,39 @@ bool stutter_judge(const uint8_t *left, size_t left_length,
                    const uint8_t *right, size_t right_length,
                    const uint8_t *certificate, size_t certificate_length,
                    uint64_t *answer, size_t answer_length);
+
+/* The most bytes that a certificate has: for two tables of 64 states and 256 steps. An output of this length serves any two tables. */
+#define STUTTER_CERTIFICATE_MOST 41483
+
+/* Makes a certificate for two state tables and a relation between their states. The relation has 8 bytes for each left state s, high byte first;
+ * the bit of weight 2 to the power t says that s and the right state t are related. Any bytes are taken, and no file is too short or too long.
+ * No pointer is null, not even that of an empty file.
+ *
+ * A certificate of L bytes goes to the first L bytes of `output`, later bytes stay as they are; on a refusal `output` stays as it was. The six numbers
+ * go to the first six places of `answer`, later places stay as they are, and the function returns true. Where `answer_length` is below six
+ * nothing at all is written, neither to `output` nor to `answer`, and it returns false. `output` and `answer` overlap each other and the files nowhere.
+ *
+ *   answer[0]  code: 0 where a certificate was made, which stutter_judge then accepts; else the number of the cause for which there is none
+ *   answer[1]  file: 0 left table, 1 right table, 2 relation, 3 output
+ *   answer[2]  a ..
+ *   answer[5]  .. d: as the code says; a value that it does not name is 0
+ *
+ *   code     a, b, c, d
+ *   0        a the bytes of the certificate, L
+ *   1 to 9   as of stutter_judge
+ *   15 to 17 as of stutter_judge, with the rows of the relation
+ *   20       none: the relation has not 8 bytes for each left state
+ *   21       a the bytes that the certificate needs, L: the output has fewer. With an output of no bytes this asks for L
+ *   22       a side (0 left, 1 right), b left state, c right state, d step: no path of the other state matches this step, and its end and the
+ *            other state are not related
+ *   23       a side, b a state of the other side, c a state of this side: from c there are endless steps through states related to b that no
+ *            path from b matches
+ */
+bool stutter_make(const uint8_t *left, size_t left_length,
+                  const uint8_t *right, size_t right_length,
+                  const uint8_t *relation, size_t relation_length,
+                  uint8_t *output, size_t output_length,
+                  uint64_t *answer, size_t answer_length);
 
 #ifdef __cplusplus
 }

@@ -2,14 +2,18 @@
 use tables::Answer;
 ghost use mathlib.Core.Path.{_≡_};
 ghost use Rattle.checker.specs.Judge.{judgeAnswer};
-ghost use Rattle.stutter.specs.Interface.{hasRoom, answered};
+ghost use Rattle.ranking.specs.Make.{makeAnswer, makeOutput};
+ghost use Rattle.stutter.specs.Interface.{hasRoom, answered, whereRoom};
+
+// The places that an answer takes.
+const PLACES: usize = 6;
 
 // Puts the six numbers into the first six places, and says whether there are six. Fewer places stay as they are.
 fn put_numbers(numbers: Answer, places: &mut [u64]) -> bool
     ensures room { λ r. ⌜ r ≡ hasRoom (now (places .entry)) ⌝ }
     ensures put { λ r. ⌜ now (places .exit) ≡ answered numbers (now (places .entry)) ⌝ }
 {
-    if places.len() < 6 {
+    if places.len() < PLACES {
         return false;
     }
     places[0] = numbers.code as u64;
@@ -33,5 +37,26 @@ pub extern "C" fn stutter_judge(
     ensures put { λ r. ⌜ now (answer .exit) ≡ answered (judgeAnswer (now (left .entry)) (now (right .entry)) (now (certificate .entry))) (now (answer .entry)) ⌝ }
 {
     let numbers = checker::judge(left, right, certificate);
+    put_numbers(numbers, answer)
+}
+
+// Makes a certificate at the front of `output`. The six numbers go to the first six places of `answer`; where it has fewer, nothing is written,
+// neither to it nor to `output`, and false is returned.
+#[no_mangle]
+pub extern "C" fn stutter_make(
+    left: &[u8],
+    right: &[u8],
+    relation: &[u8],
+    output: &mut [u8],
+    answer: &mut [u64],
+) -> bool
+    ensures room { λ r. ⌜ r ≡ hasRoom (now (answer .entry)) ⌝ }
+    ensures put { λ r. ⌜ now (answer .exit) ≡ answered (makeAnswer (now (left .entry)) (now (right .entry)) (now (relation .entry)) (now (output .entry))) (now (answer .entry)) ⌝ }
+    ensures written { λ r. ⌜ now (output .exit) ≡ whereRoom (now (answer .entry)) (makeOutput (now (left .entry)) (now (right .entry)) (now (relation .entry)) (now (output .entry))) (now (output .entry)) ⌝ }
+{
+    if answer.len() < PLACES {
+        return false;
+    }
+    let numbers = ranking::make(left, right, relation, output);
     put_numbers(numbers, answer)
 }
