@@ -1,5 +1,5 @@
-//! Runs the comparisons of the oracle with itself and with its tuned judge at full
-//! length, and prints their times and what was seen.
+//! Runs the comparisons of the oracle with its tuned judge and maker and with itself
+//! at full length, and prints their times and what was seen.
 
 use std::time::Instant;
 
@@ -7,8 +7,8 @@ fn main() {
     run("300,000 inputs, plain judge and tuned judge", || {
         compare::judge(300_000, 1, oracle::tuned::judge)
     });
-    run("100,000 inputs, maker and itself", || {
-        compare::make(100_000, 2, oracle::make)
+    run("100,000 inputs, plain maker and tuned maker", || {
+        compare::make(100_000, 2, oracle::tuned_maker::make)
     });
     run("50,000 inputs, program and itself", || {
         compare::program(50_000, 3, oracle::program)

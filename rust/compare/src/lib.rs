@@ -3,10 +3,12 @@
 //! was seen.
 
 mod names;
+mod path_property;
 mod report;
 
 use inputs::{JudgeCases, MakeCases, ProgramCases, Random, PROGRAM_FORMS};
 use names::{limit_names, name, names, size_names};
+pub use path_property::{Implementation, Seen};
 pub use report::Report;
 
 type Answer = [u64; 6];
@@ -67,6 +69,7 @@ pub fn make(
     required.extend(RUNS.map(|run| format!("made, {run} rank of 63")));
     required.extend(["made, output exact", "made, output longer"].map(String::from));
     required.push("21, one byte short".to_string());
+    required.push(LARGEST.to_string());
     required.extend(limit_names("made"));
     let mut report = Report::new(required);
     let mut random = Random::new(!seed);
@@ -117,6 +120,9 @@ pub fn make(
     report
 }
 
+/// Every pair of 64 and 64 states related, and 256 steps on both sides.
+const LARGEST: &str = "made, all pairs of the largest tables";
+
 /// The four runs of ranks.
 const RUNS: [&str; 4] = ["AL", "AR", "CL", "CR"];
 
@@ -137,7 +143,10 @@ fn see_made(
     }
     let (n1, n2) = (left[5] as usize, right[5] as usize);
     let m1 = left[7] as usize * 256 + left[8] as usize;
-    let mut rest = &certificate[11 + 8 * n1..];
+    let (rows, mut rest) = certificate[11..].split_at(8 * n1);
+    if certificate.len() == 41_483 && rows.iter().all(|&byte| byte == 0xff) {
+        report.see(LARGEST);
+    }
     for (run, length) in RUNS.iter().zip([n1 * n2, n1 * n2, m1 * n2, usize::MAX]) {
         let (ranks, after) = rest.split_at(length.min(rest.len()));
         if ranks.iter().any(|&rank| rank > 0) {

@@ -1,5 +1,7 @@
-//! The oracle beside the tuned judge and beside itself, on enough inputs that
-//! every number, side, clause and limit is seen.
+//! The oracle beside the tuned judge and maker and beside itself, on enough inputs
+//! that every number, side, clause and limit is seen.
+
+use inputs::{all_related, long_chains, long_distances};
 
 #[test]
 fn the_tuned_judge_equals_the_plain_one() {
@@ -7,8 +9,26 @@ fn the_tuned_judge_equals_the_plain_one() {
 }
 
 #[test]
-fn every_number_of_the_maker_is_seen() {
-    compare::make(100_000, 2, oracle::make).require_all();
+fn the_tuned_maker_equals_the_plain_one() {
+    compare::make(100_000, 2, oracle::tuned_maker::make).require_all();
+}
+
+#[test]
+fn the_tuned_maker_equals_the_plain_one_on_the_fullest_systems() {
+    for system in [all_related(), long_chains(), long_distances()] {
+        for system in [system.clone(), system.exchanged()] {
+            let (expected, certificate) = system.make();
+            let mut output = vec![0xa5; certificate.len()];
+            let made = oracle::tuned_maker::make(
+                &system.left_bytes(),
+                &system.right_bytes(),
+                &system.relation_bytes(),
+                &mut output,
+            );
+            assert_eq!(made, expected);
+            assert!(output == certificate, "the certificates differ");
+        }
+    }
 }
 
 #[test]

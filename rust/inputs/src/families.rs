@@ -17,6 +17,7 @@ pub fn any_system(random: &mut Random) -> System {
         94..=96 => long_system(random),
         97 => round_trip(random),
         98 => stepless_system(random),
+        _ if random.percent(25) => all_related(),
         _ => full_system(random),
     };
     if random.percent(50) {
@@ -211,6 +212,88 @@ pub fn full_system(random: &mut Random) -> System {
     relate_copies(left, right)
 }
 
+/// 64 states with 4 steps each on both sides, one mark, and every pair related: the
+/// longest certificate and the most duties, all of them met by 2a.
+pub fn all_related() -> System {
+    let step = |j: usize| Step {
+        from: j / 4,
+        to: (j / 4 + j % 4 + 1) % 64,
+    };
+    let table = Table {
+        start: 0,
+        marks: vec![0; 64],
+        steps: (0..256).map(step).collect(),
+    };
+    System {
+        left: table.clone(),
+        right: table,
+        related: vec![vec![true; 64]; 64],
+    }
+}
+
+/// The longest chains there can be, with 64 states and 256 steps on both sides. The
+/// left states stand in a line with steps ahead only, each related to the right
+/// states 0 to 59, which are dead ends; so every left step is unmatched at each of
+/// them. The right steps leave the states 60 to 63, which are related to nothing.
+pub fn long_chains() -> System {
+    let ahead = (1..64).flat_map(|by| (by..64).map(move |to| Step { from: to - by, to }));
+    let all_from = |from| (0..64).map(move |to| Step { from, to });
+    let table = |steps: Vec<Step>| Table {
+        start: 0,
+        marks: vec![0; 64],
+        steps,
+    };
+    let left = table(ahead.take(256).collect());
+    let right = table((60..64).flat_map(all_from).collect());
+    let related = relation(&left, &right, |_, t| t < 60);
+    System {
+        left,
+        right,
+        related,
+    }
+}
+
+/// The longest chases there can be, with 64 states and 256 steps on both sides. The
+/// right states stand in a cycle, with further steps that only lead back. The left
+/// states 0 to 31 are related to all of them and the others to the last one only,
+/// so that a step from the first kind to the second is chased round the cycle. The
+/// steps of the cycle stand first, rising, so that a round of relaxing them settles
+/// one more state only.
+pub fn long_distances() -> System {
+    let steps_at = |i: usize| {
+        let to_last = (0..5).map(move |k| Step {
+            from: i,
+            to: 32 + (i + k) % 32,
+        });
+        let next = (i + 1) % 32;
+        let to_all = [(i, next), (32 + i, i), (32 + i, next)];
+        to_last.chain(to_all.map(|(from, to)| Step { from, to }))
+    };
+    let cycle = (0..64).map(|from| Step {
+        from,
+        to: (from + 1) % 64,
+    });
+    let back = (1..63).flat_map(|by| {
+        (by..63).map(move |from| Step {
+            from,
+            to: from - by,
+        })
+    });
+    let table = |steps: Vec<Step>| Table {
+        start: 0,
+        marks: vec![0; 64],
+        steps,
+    };
+    let left = table((0..32).flat_map(steps_at).collect());
+    let right = table(cycle.chain(back).take(256).collect());
+    let related = relation(&left, &right, |s, t| s < 32 || t == 63);
+    System {
+        left,
+        right,
+        related,
+    }
+}
+
 /// No step at all, and states with equal marks related.
 pub fn stepless_system(random: &mut Random) -> System {
     let mut table = || {
@@ -287,6 +370,31 @@ mod tests {
                 let (answer, _) = family(&mut random).make();
                 assert_eq!(answer[0], 0, "{name}: {answer:?}");
             }
+        }
+    }
+
+    /// 64 states and 256 steps a side, and the ranks that the names promise.
+    #[test]
+    fn the_fullest_systems_are_made() {
+        for (system, ranks) in [
+            (all_related(), [0, 0, 0, 0]),
+            (long_chains(), [63, 0, 0, 0]),
+            (long_distances(), [0, 0, 63, 0]),
+        ] {
+            let (layout, (answer, made)) = (system.layout(), system.make());
+            assert_eq!(answer[..3], [0, 0, 41_483]);
+            let places = [
+                layout.al(0, 0),
+                layout.ar(0, 0),
+                layout.cl(0, 0),
+                layout.cr(0, 0),
+                layout.length(),
+            ];
+            let highest = [0, 1, 2, 3].map(|run| {
+                let run = &made[places[run]..places[run + 1]];
+                run.iter().copied().max().unwrap_or(0)
+            });
+            assert_eq!(highest, ranks);
         }
     }
 

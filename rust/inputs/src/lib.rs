@@ -13,7 +13,7 @@ mod system;
 mod system_edits;
 mod table_edits;
 
-pub use families::any_system;
+pub use families::{all_related, any_system, long_chains, long_distances};
 pub use judge_cases::{JudgeCase, JudgeCases};
 pub use make_cases::{MakeCase, MakeCases};
 pub use program_cases::{ProgramCase, ProgramCases, PROGRAM_FORMS};

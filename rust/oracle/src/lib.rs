@@ -2,7 +2,8 @@
 //!
 //! Every notion of the scope document has one function here, and the comment
 //! above it quotes the sentence it follows, so that the two can be read side by
-//! side. Nothing is tuned for speed; `tuned` is, and is checked against the rest.
+//! side. Nothing is tuned for speed; `tuned` and `tuned_maker` are, and are checked
+//! against the rest.
 
 mod certificate;
 mod judge;
@@ -12,6 +13,7 @@ mod program;
 mod side;
 mod table;
 pub mod tuned;
+pub mod tuned_maker;
 
 pub use certificate::Layout;
 pub use judge::judge;

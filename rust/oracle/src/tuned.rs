@@ -6,14 +6,14 @@ use crate::Answer;
 
 /// One table, read once. `successors[s]` has a bit for each state that s steps
 /// to. The steps from s, in table order, are `order[first[s]..first[s + 1]]`.
-struct Table<'a> {
-    states: usize,
-    start: usize,
-    marks: &'a [u8],
-    steps: &'a [u8],
-    successors: [u64; 64],
-    first: [usize; 65],
-    order: [u16; 256],
+pub(crate) struct Table<'a> {
+    pub states: usize,
+    pub start: usize,
+    pub marks: &'a [u8],
+    pub steps: &'a [u8],
+    pub successors: [u64; 64],
+    pub first: [usize; 65],
+    pub order: [u16; 256],
 }
 
 /// One direction of judging. `related[s]` has a bit for each state of the other
@@ -112,7 +112,7 @@ fn judge_state(side: &Side, s: usize, t: usize, met: &mut [u64; 3]) -> Result<()
     Ok(())
 }
 
-fn read_table(bytes: &[u8], file: u64) -> Result<Table<'_>, Answer> {
+pub(crate) fn read_table(bytes: &[u8], file: u64) -> Result<Table<'_>, Answer> {
     let refuse = |code: u64, a: usize| Err([code, file, a as u64, 0, 0, 0]);
     if bytes.len() < 9 {
         return refuse(1, 0);
@@ -202,7 +202,7 @@ fn read_header(bytes: &[u8], [n1, n2, m1, m2]: [usize; 4]) -> Result<(), Answer>
 }
 
 /// Rows past the last state stay 0.
-fn read_rows(bytes: &[u8], n2: usize) -> Result<[u64; 64], Answer> {
+pub(crate) fn read_rows(bytes: &[u8], n2: usize) -> Result<[u64; 64], Answer> {
     let allowed = u64::MAX >> (64 - n2);
     let mut rows = [0; 64];
     for (s, row) in bytes.chunks_exact(8).enumerate() {
@@ -215,7 +215,7 @@ fn read_rows(bytes: &[u8], n2: usize) -> Result<[u64; 64], Answer> {
 }
 
 /// Turns rows into columns.
-fn turn(rows: &[u64; 64], n1: usize) -> [u64; 64] {
+pub(crate) fn turn(rows: &[u64; 64], n1: usize) -> [u64; 64] {
     let mut columns = [0; 64];
     for s in 0..n1 {
         for t in bits(rows[s]) {
@@ -227,7 +227,7 @@ fn turn(rows: &[u64; 64], n1: usize) -> [u64; 64] {
 
 /// The states of a word, rising.
 #[inline]
-fn bits(mut word: u64) -> impl Iterator<Item = usize> {
+pub(crate) fn bits(mut word: u64) -> impl Iterator<Item = usize> {
     std::iter::from_fn(move || {
         if word == 0 {
             return None;

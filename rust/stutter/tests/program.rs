@@ -1,6 +1,5 @@
 //! The built program beside the oracle's, and how it behaves as a process.
 
-use oracle::{Step, Table};
 use std::fs::File;
 use std::io::{ErrorKind, Read, Seek, Write};
 use std::path::{Path, PathBuf};
@@ -74,20 +73,7 @@ fn example() -> Vec<u8> {
 
 /// 64 states and 256 steps a side, every pair related: the longest certificate.
 fn largest_accepted() -> Vec<u8> {
-    let step = |j: usize| Step {
-        from: j / 4,
-        to: (j / 4 + j % 4 + 1) % 64,
-    };
-    let table = Table {
-        start: 0,
-        marks: vec![0; 64],
-        steps: (0..256).map(step).collect(),
-    };
-    let system = inputs::System {
-        left: table.clone(),
-        right: table,
-        related: vec![vec![true; 64]; 64],
-    };
+    let system = inputs::all_related();
     let (answer, certificate) = system.make();
     assert_eq!(answer[..3], [0, 0, 41_483]);
     joined([&system.left_bytes(), &system.right_bytes(), &certificate])

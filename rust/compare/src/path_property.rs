@@ -1,0 +1,159 @@
+//! The maker succeeds exactly when the path property holds, which is decided here
+//! without ranks, matched duties or chains.
+
+use crate::Answer;
+use inputs::{relation_bytes, table_bytes, MakeCases, Random};
+use oracle::{Layout, Step, Table};
+
+/// A maker, and the judge that is to accept what it makes and nothing that cannot be
+/// made.
+#[derive(Clone, Copy)]
+pub struct Implementation {
+    pub make: fn(&[u8], &[u8], &[u8], &mut [u8]) -> Answer,
+    pub judge: fn(&[u8], &[u8], &[u8]) -> Answer,
+}
+
+/// How many relations had the path property, and how many had not.
+#[derive(Default, Debug)]
+pub struct Seen {
+    pub with: usize,
+    pub without: usize,
+}
+
+impl Implementation {
+    /// All tables of these sizes with start 0 and equal marks, and all relations.
+    pub fn check_all(self, n1: usize, n2: usize) -> Seen {
+        let mut check = Check::new(self, 1);
+        for left_steps in 0..1 << (n1 * n1) {
+            let left = table(0, &vec![0; n1], left_steps);
+            for right_steps in 0..1 << (n2 * n2) {
+                let right = table(0, &vec![0; n2], right_steps);
+                for pairs in 0..1 << (n1 * n2) {
+                    check.system(&left, &right, &relation(n1, n2, pairs));
+                }
+            }
+        }
+        check.seen
+    }
+
+    /// Two states a side with every start and every choice of two marks.
+    pub fn check_starts_and_marks(self) -> Seen {
+        let mut check = Check::new(self, 2);
+        for choice in 0..1 << 18 {
+            let bits = |place: usize, count: usize| choice >> place & ((1 << count) - 1);
+            let bit = |place| bits(place, 1);
+            let left = table(bit(0), &[bit(1) as u16, bit(2) as u16], bits(3, 4));
+            let right = table(bit(7), &[bit(8) as u16, bit(9) as u16], bits(10, 4));
+            check.system(&left, &right, &relation(2, 2, bits(14, 4)));
+        }
+        check.seen
+    }
+
+    /// A sample of the systems of three states a side.
+    pub fn check_three_states(self, count: usize) -> Seen {
+        let mut check = Check::new(self, 3);
+        let mut random = Random::new(!3);
+        for _ in 0..count {
+            // Fewer steps and more pairs than half let the property hold more often.
+            let left = table(0, &[0; 3], random.below(512) & random.below(512));
+            let right = table(0, &[0; 3], random.below(512) & random.below(512));
+            let pairs = random.below(512) | random.below(512) | 1;
+            check.system(&left, &right, &relation(3, 3, pairs));
+        }
+        check.seen
+    }
+
+    /// Those of `count` generated inputs of the maker that are well formed and have
+    /// at most four states a side.
+    pub fn check_generated(self, count: usize) -> Seen {
+        let mut check = Check::new(self, 4);
+        for case in MakeCases::new(5, count) {
+            let (left, right, relation) = (&case.left, &case.right, &case.relation);
+            let mut output = vec![0; case.output_length];
+            let code = oracle::make(left, right, relation, &mut output)[0];
+            if [0, 16, 17, 22, 23].contains(&code) && left[5] <= 4 && right[5] <= 4 {
+                check.system(left, right, relation);
+            }
+        }
+        check.seen
+    }
+}
+
+struct Check {
+    implementation: Implementation,
+    random: Random,
+    seen: Seen,
+}
+
+impl Check {
+    fn new(implementation: Implementation, seed: u64) -> Check {
+        Check {
+            implementation,
+            random: Random::new(seed),
+            seen: Seen::default(),
+        }
+    }
+
+    /// Checks one system: the maker succeeds exactly when the path property holds,
+    /// the judge accepts what it made, and without the path property the judge
+    /// accepts none of some certificates with random ranks.
+    fn system(&mut self, left: &[u8], right: &[u8], relation: &[u8]) {
+        let Implementation { make, judge } = self.implementation;
+        let layout = Layout {
+            n1: left[5] as usize,
+            n2: right[5] as usize,
+            m1: left[8] as usize,
+            m2: right[8] as usize,
+        };
+        let mut certificate = vec![0; layout.length()];
+        let answer = make(left, right, relation, &mut certificate);
+        let holds = oracle::path_property(left, right, relation);
+        let system = || format!("left {left:?}\nright {right:?}\nrelation {relation:?}");
+        assert!(
+            [0, 16, 17, 22, 23].contains(&answer[0]),
+            "{answer:?}\n{}",
+            system()
+        );
+        assert_eq!(answer[0] == 0, holds, "{answer:?}\n{}", system());
+
+        if holds {
+            self.seen.with += 1;
+            let judged = judge(left, right, &certificate);
+            assert_eq!(judged[0], 0, "{judged:?}\n{}", system());
+        } else {
+            self.seen.without += 1;
+            certificate[..11].copy_from_slice(&layout.header());
+            certificate[11..layout.al(0, 0)].copy_from_slice(relation);
+            for highest in [1, 3, 255] {
+                for rank in &mut certificate[layout.al(0, 0)..] {
+                    *rank = self.random.within(0, highest) as u8;
+                }
+                let judged = judge(left, right, &certificate);
+                assert_ne!(judged[0], 0, "{certificate:?}\n{}", system());
+            }
+        }
+    }
+}
+
+/// The table with these marks whose steps are the bits of `steps`.
+fn table(start: usize, marks: &[u16], steps: usize) -> Vec<u8> {
+    let n = marks.len();
+    let steps = (0..n * n)
+        .filter(|pair| steps >> pair & 1 == 1)
+        .map(|pair| Step {
+            from: pair / n,
+            to: pair % n,
+        })
+        .collect();
+    table_bytes(&Table {
+        start,
+        marks: marks.to_vec(),
+        steps,
+    })
+}
+
+/// The relation whose pairs are the bits of `pairs`.
+fn relation(n1: usize, n2: usize, pairs: usize) -> Vec<u8> {
+    let row = |s| (0..n2).map(|t| pairs >> (s * n2 + t) & 1 == 1).collect();
+    relation_bytes(&(0..n1).map(row).collect::<Vec<_>>())
+}

@@ -1,0 +1,212 @@
+//! The maker once more, tuned: the method of the proved maker on 64-bit words.
+//!
+//! For each own step one row of lengths is relaxed over the other side's steps
+//! until a round changes nothing. Chains are lengthened by rounds, for all states
+//! of a side together. It shares no code with the plain maker.
+
+use crate::tuned::{bits, read_rows, read_table, turn, Table};
+use crate::Answer;
+
+/// "Input: two tables, n1 rows of 8 bytes, an output."
+pub fn make(left: &[u8], right: &[u8], relation: &[u8], output: &mut [u8]) -> Answer {
+    match make_or_refuse(left, right, relation, output) {
+        Ok(answer) | Err(answer) => answer,
+    }
+}
+
+/// One direction. `related[s]` has a bit for each other state that is related to
+/// the own state s. `distances[64 * j + t]` is the length for the own step j at the
+/// other state t: the chase length, or the number of other states where the step is
+/// unmatched at t or there is no duty.
+struct Side<'a> {
+    own: &'a Table<'a>,
+    other: &'a Table<'a>,
+    related: &'a [u64; 64],
+    distances: Vec<u8>,
+}
+
+fn make_or_refuse(
+    left: &[u8],
+    right: &[u8],
+    relation: &[u8],
+    output: &mut [u8],
+) -> Result<Answer, Answer> {
+    let left = read_table(left, 0)?;
+    let right = read_table(right, 1)?;
+    let (n1, n2) = (left.states, right.states);
+    let (m1, m2) = (left.steps.len() / 2, right.steps.len() / 2);
+    if relation.len() != 8 * n1 {
+        return Err([20, 2, 0, 0, 0, 0]);
+    }
+    let rows = read_rows(relation, n2)?;
+    let length = 11 + 8 * n1 + 2 * n1 * n2 + m1 * n2 + m2 * n1;
+    if output.len() < length {
+        return Err([21, 3, length as u64, 0, 0, 0]);
+    }
+    if rows[left.start] >> right.start & 1 == 0 {
+        return Err([16, 2, left.start as u64, right.start as u64, 0, 0]);
+    }
+
+    let columns = turn(&rows, n1);
+    let sides = [
+        Side::new(&left, &right, &rows),
+        Side::new(&right, &left, &columns),
+    ];
+    for s in 0..n1 {
+        for t in bits(rows[s]) {
+            if left.marks[2 * s..2 * s + 2] != right.marks[2 * t..2 * t + 2] {
+                return Err([17, 2, s as u64, t as u64, 0, 0]);
+            }
+            for (number, own, other) in [(0, s, t), (1, t, s)] {
+                if let Some(j) = sides[number].first_lost(own, other) {
+                    return Err([22, 2, number as u64, s as u64, t as u64, j as u64]);
+                }
+            }
+        }
+    }
+    let chains = [sides[0].chains(), sides[1].chains()];
+    for number in 0..2 {
+        if let Some((fixed, first)) = sides[number].first_endless(&chains[number]) {
+            return Err([23, 2, number as u64, fixed as u64, first as u64, 0]);
+        }
+    }
+
+    let (header, rest) = output[..length].split_at_mut(11);
+    let (given, rest) = rest.split_at_mut(8 * n1);
+    let (al, rest) = rest.split_at_mut(n1 * n2);
+    let (ar, rest) = rest.split_at_mut(n1 * n2);
+    let (cl, cr) = rest.split_at_mut(m1 * n2);
+    header[..7].copy_from_slice(&[b'T', b'P', b'C', 0, 1, n1 as u8, n2 as u8]);
+    header[7..9].copy_from_slice(&(m1 as u16).to_be_bytes());
+    header[9..].copy_from_slice(&(m2 as u16).to_be_bytes());
+    given.copy_from_slice(relation);
+    sides[0].write_stutter(&chains[0], al);
+    sides[1].write_stutter(&chains[1], ar);
+    sides[0].write_chase(cl);
+    sides[1].write_chase(cr);
+    Ok([0, 0, length as u64, 0, 0, 0])
+}
+
+impl<'a> Side<'a> {
+    fn new(own: &'a Table, other: &'a Table, related: &'a [u64; 64]) -> Side<'a> {
+        let mut distances = vec![0; 64 * (own.steps.len() / 2)];
+        let rows = distances.chunks_exact_mut(64);
+        for (step, row) in own.steps.chunks_exact(2).zip(rows) {
+            let (from, to) = (related[step[0] as usize], related[step[1] as usize]);
+            row.copy_from_slice(&step_distances(other, from, to));
+        }
+        Side {
+            own,
+            other,
+            related,
+            distances,
+        }
+    }
+
+    fn is_related(&self, own: usize, other: usize) -> bool {
+        self.related[own] >> other & 1 == 1
+    }
+
+    fn is_matched(&self, j: usize, t: usize) -> bool {
+        (self.distances[64 * j + t] as usize) < self.other.states
+    }
+
+    /// The first step from s that is unmatched at t and leads to a state unrelated
+    /// to t.
+    fn first_lost(&self, s: usize, t: usize) -> Option<usize> {
+        let steps = &self.own.order[self.own.first[s]..self.own.first[s + 1]];
+        steps.iter().map(|&j| j as usize).find(|&j| {
+            let u = self.own.steps[2 * j + 1] as usize;
+            !self.is_matched(j, t) && !self.is_related(u, t)
+        })
+    }
+
+    /// The longest chains, that at t from s at 64 t + s, counted up to the number of
+    /// own states.
+    fn chains(&self) -> Vec<u8> {
+        let mut chains = vec![0; 64 * self.other.states];
+        for (t, row) in chains.chunks_exact_mut(64).enumerate() {
+            let open = self.open_steps(t);
+            let mut lengths = [0; 64];
+            for _ in 0..self.own.states {
+                lengths = lengthen(&open, &lengths);
+            }
+            row.copy_from_slice(&lengths);
+        }
+        chains
+    }
+
+    /// The steps between states related to t that are unmatched at t.
+    fn open_steps(&self, t: usize) -> Vec<[u8; 2]> {
+        let steps = self.own.steps.chunks_exact(2).enumerate();
+        steps
+            .filter(|(j, step)| {
+                let inside = step.iter().all(|&s| self.is_related(s as usize, t));
+                inside && !self.is_matched(*j, t)
+            })
+            .map(|(_, step)| [step[0], step[1]])
+            .collect()
+    }
+
+    /// The first other state and the first own state with a chain of as many steps
+    /// as there are own states.
+    fn first_endless(&self, chains: &[u8]) -> Option<(usize, usize)> {
+        let place = chains
+            .iter()
+            .position(|&length| length as usize == self.own.states)?;
+        Some((place / 64, place % 64))
+    }
+
+    fn write_stutter(&self, chains: &[u8], run: &mut [u8]) {
+        for (s, row) in run.chunks_exact_mut(self.other.states).enumerate() {
+            for (t, rank) in row.iter_mut().enumerate() {
+                *rank = chains[64 * t + s];
+            }
+        }
+    }
+
+    fn write_chase(&self, run: &mut [u8]) {
+        for (j, row) in run.chunks_exact_mut(self.other.states).enumerate() {
+            for (t, rank) in row.iter_mut().enumerate() {
+                *rank = if self.is_matched(j, t) {
+                    self.distances[64 * j + t]
+                } else {
+                    0
+                };
+            }
+        }
+    }
+}
+
+/// The row of lengths of one own step: `from` are the other states related to the
+/// state it leaves and `to` those related to its end.
+fn step_distances(other: &Table, from: u64, to: u64) -> [u8; 64] {
+    let mut row = [other.states as u8; 64];
+    for step in other.steps.chunks_exact(2) {
+        if from >> step[0] & 1 == 1 && to >> step[1] & 1 == 1 {
+            row[step[0] as usize] = 0;
+        }
+    }
+    let mut changed = true;
+    while changed {
+        changed = false;
+        for step in other.steps.chunks_exact(2) {
+            let (x, y) = (step[0] as usize, step[1] as usize);
+            if row[y] + 1 < row[x] && from >> x & 1 == 1 {
+                row[x] = row[y] + 1;
+                changed = true;
+            }
+        }
+    }
+    row
+}
+
+/// One round: one more than the greatest length over the next states.
+fn lengthen(steps: &[[u8; 2]], shorter: &[u8; 64]) -> [u8; 64] {
+    let mut longer = [0; 64];
+    for &[from, to] in steps {
+        let length = &mut longer[from as usize];
+        *length = (*length).max(shorter[to as usize] + 1);
+    }
+    longer
+}

@@ -1,0 +1,121 @@
+//! The proved maker, through the C interface, beside the oracle.
+
+use inputs::{all_related, long_chains, long_distances, MakeCases, Random};
+
+/// The proved maker, and the proved judge on each certificate that it makes.
+fn make_and_judge(left: &[u8], right: &[u8], relation: &[u8], output: &mut [u8]) -> [u64; 6] {
+    let answer = stutter::make(left, right, relation, output);
+    if answer[0] == 0 {
+        let certificate = &output[..answer[2] as usize];
+        let judged = stutter::judge(left, right, certificate);
+        assert_eq!(judged[0], 0, "{judged:?}");
+        assert_eq!(judged, oracle::judge(left, right, certificate));
+    }
+    answer
+}
+
+#[test]
+fn the_maker_equals_the_oracle() {
+    compare::make(100_000, 25, make_and_judge).require_all();
+}
+
+/// 64 states and 256 steps a side: all pairs related, chains of 63 steps, chases of
+/// 63 steps.
+#[test]
+fn the_largest_certificates_are_made() {
+    for system in [all_related(), long_chains(), long_distances()] {
+        for system in [system.clone(), system.exchanged()] {
+            let (left, right) = (system.left_bytes(), system.right_bytes());
+            let (expected, certificate) = system.make();
+            assert_eq!(expected, [0, 0, 41_483, 0, 0, 0]);
+            let mut output = vec![0xa5; 41_483];
+            let made = make_and_judge(&left, &right, &system.relation_bytes(), &mut output);
+            assert_eq!(made, expected);
+            assert!(output == certificate, "the certificates differ");
+        }
+    }
+}
+
+/// With fewer than six places neither they nor the output change.
+#[test]
+fn a_short_answer_leaves_all_alone() {
+    let mut random = Random::new(26);
+    for case in MakeCases::new(26, 500) {
+        let pattern = random.bytes(case.output_length);
+        for length in 0..6 {
+            let places: Vec<u64> = (0..length).map(|i| u64::MAX - i).collect();
+            let (mut answer, mut output) = (places.clone(), pattern.clone());
+            let had_room = stutter::make_into(
+                &case.left,
+                &case.right,
+                &case.relation,
+                &mut output,
+                &mut answer,
+            );
+            assert!(!had_room, "{length} places");
+            assert_eq!(answer, places, "{length} places");
+            assert_eq!(output, pattern, "{length} places");
+        }
+    }
+}
+
+/// With six places or more the first six are the answer, and the rest stays.
+#[test]
+fn a_longer_answer_keeps_its_tail() {
+    for case in MakeCases::new(27, 500) {
+        let mut expected_output = vec![0x5a; case.output_length];
+        let expected = oracle::make(
+            &case.left,
+            &case.right,
+            &case.relation,
+            &mut expected_output,
+        );
+        for length in 6..12 {
+            let places: Vec<u64> = (0..length).map(|i| u64::MAX - i).collect();
+            let (mut answer, mut output) = (places.clone(), vec![0x5a; case.output_length]);
+            let had_room = stutter::make_into(
+                &case.left,
+                &case.right,
+                &case.relation,
+                &mut output,
+                &mut answer,
+            );
+            assert!(had_room, "{length} places");
+            assert_eq!(answer[..6], expected, "{length} places");
+            assert_eq!(answer[6..], places[6..], "{length} places");
+            assert_eq!(output, expected_output, "{length} places");
+        }
+    }
+}
+
+/// Files and output that lie in larger buffers: a byte read past a file's end would
+/// change the answer, and a byte written past the output is seen.
+#[test]
+fn only_the_bytes_lent_are_touched() {
+    for case in MakeCases::new(28, 3_000) {
+        let files = [&case.left, &case.right, &case.relation];
+        let [left, right, relation] = files;
+        let mut expected_output = vec![0x5a; case.output_length];
+        let expected = oracle::make(left, right, relation, &mut expected_output);
+        for filler in [0x00, 0x01, 0xff] {
+            let mut buffer = vec![filler; 16];
+            let mut places = Vec::new();
+            for file in files {
+                places.push(buffer.len()..buffer.len() + file.len());
+                buffer.extend(file);
+                buffer.extend([filler; 16]);
+            }
+            let [left, right, relation] = [0, 1, 2].map(|i| &buffer[places[i].clone()]);
+
+            let around = [filler; 16];
+            let mut output = around.to_vec();
+            output.resize(16 + case.output_length, 0x5a);
+            output.extend(around);
+            let (before, rest) = output.split_at_mut(16);
+            let (lent, after) = rest.split_at_mut(case.output_length);
+            assert_eq!(stutter::make(left, right, relation, lent), expected);
+            assert_eq!(lent, expected_output);
+            assert_eq!((&*before, &*after), (&around[..], &around[..]));
+        }
+    }
+}
