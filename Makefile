@@ -1,7 +1,7 @@
 # make run     prove and build the judge's program, and run it on the example P, Q, K of the format's document
 # make test    the whole gate: layout, the library and the program for the Rust tests, these tests, then from nothing proofs, must-fail edits
 #              and programs; its last line is rt's 'N passed, 0 failed'
-# make bench   speed of the proved judge beside two Rust versions, as ratios in one run; no part of the gate
+# make bench   speed of the proved judge and the proved maker beside Rust versions, as ratios in one run; no part of the gate
 # make fmt     lay out every file under crates/
 
 CARGO_WORDS = --release --offline --quiet --manifest-path rust/Cargo.toml

@@ -1,57 +1,103 @@
-//! Times the proved judge beside the plain and the tuned Rust judge, on the same
-//! inputs in one run. The judges take turns in every round and the medians are
+//! Times the proved judge and the proved maker beside Rust versions, on the same
+//! inputs in one run. The versions take turns in every round and the medians are
 //! compared, so that other load on the machine does not decide.
 
-use inputs::{Random, System};
+use inputs::{all_related, long_chains, long_distances, Random, System};
 use oracle::{Answer, Step, Table};
+use std::cell::RefCell;
 use std::hint::black_box;
 use std::time::{Duration, Instant};
 
 type Judge = fn(&[u8], &[u8], &[u8]) -> Answer;
+type Make = fn(&[u8], &[u8], &[u8], &mut [u8]) -> Answer;
 
 /// The judges, the proved one first.
 const JUDGES: [(&str, Judge); 3] = [
     ("proved", stutter::judge),
-    ("plain", oracle::judge),
-    ("tuned", oracle::tuned::judge),
+    ("plain judge", oracle::judge),
+    ("tuned judge", oracle::tuned::judge),
+];
+
+/// The makers, the proved one first.
+const MAKERS: [(&str, Make); 2] = [
+    ("proved", stutter::make),
+    ("maker of the same method", oracle::tuned_maker::make),
 ];
 
 const ROUNDS: usize = 301;
 
-/// How long each judge works in a round.
+/// How long each version works in a round, where one call does not take longer.
 const TURN: Duration = Duration::from_micros(500);
 
-struct Case {
+/// One call of each version with the same input, the proved version first.
+struct Contest<'a> {
     name: &'static str,
-    left: Vec<u8>,
-    right: Vec<u8>,
-    certificate: Vec<u8>,
-    answer: Answer,
-    /// How many obligations are judged before the answer is known.
+    /// What a call works through, for a time of each.
     obligations: usize,
+    calls: Vec<(&'static str, Box<dyn Fn() -> Answer + 'a>)>,
 }
 
-impl Case {
-    /// A case with this system and ranks of 0.
-    fn new(name: &'static str, system: &System, answer: Answer) -> Case {
-        let obligations = match answer[0] {
-            17 => 0,
-            _ => obligations(system),
-        };
-        Case {
-            name,
-            left: system.left_bytes(),
-            right: system.right_bytes(),
-            certificate: system.certificate_with_any_ranks(&mut Random::new(0), 0),
-            answer,
-            obligations,
-        }
-    }
+fn main() {
+    println!("64 states and 256 steps a side, medians of {ROUNDS} rounds");
+    println!("the judge");
+    judge("accepted", &all_related(), [0, 0, 4096, 32_768, 0, 0]);
+    judge("first check fails", &first_fails(), [17, 2, 0, 0, 0, 0]);
+    judge("last check fails", &last_fails(), [18, 2, 1, 63, 63, 255]);
+    println!("the maker");
+    make("all pairs related", &all_related());
+    make("chains of 63 steps", &long_chains());
+    make("distances of 63 steps", &long_distances());
+}
 
-    fn judge(&self, judge: Judge) -> Answer {
-        let (left, right) = (black_box(&self.left), black_box(&self.right));
-        black_box(judge(left, right, black_box(&self.certificate)))
+/// The judges on this system with ranks of 0.
+fn judge(name: &'static str, system: &System, answer: Answer) {
+    let (left, right) = (&system.left_bytes(), &system.right_bytes());
+    let certificate = &system.certificate_with_any_ranks(&mut Random::new(0), 0);
+    let call = |judge: Judge| {
+        let (left, right) = (black_box(left), black_box(right));
+        black_box(judge(left, right, black_box(certificate)))
+    };
+    for (version, judge) in JUDGES {
+        assert_eq!(call(judge), answer, "{name}, {version}");
     }
+    let timed = |(version, judge)| (version, boxed(move || call(judge)));
+    report(&Contest {
+        name,
+        obligations: if answer[0] == 17 {
+            0
+        } else {
+            obligations(system)
+        },
+        calls: JUDGES.map(timed).into(),
+    });
+}
+
+/// The makers on this system, for which a certificate is made.
+fn make(name: &'static str, system: &System) {
+    let (left, right) = (&system.left_bytes(), &system.right_bytes());
+    let relation = &system.relation_bytes();
+    let (answer, certificate) = system.make();
+    let output = &RefCell::new(vec![0; certificate.len()]);
+    let call = |make: Make| {
+        let (left, right) = (black_box(left), black_box(right));
+        let output = &mut output.borrow_mut()[..];
+        black_box(make(left, right, black_box(relation), black_box(output)))
+    };
+    for (version, make) in MAKERS {
+        output.borrow_mut().fill(0xa5);
+        assert_eq!(call(make), answer, "{name}, {version}");
+        assert!(*output.borrow() == certificate, "{name}, {version}");
+    }
+    let timed = |(version, make)| (version, boxed(move || call(make)));
+    report(&Contest {
+        name,
+        obligations: obligations(system),
+        calls: MAKERS.map(timed).into(),
+    });
+}
+
+fn boxed<'a>(call: impl Fn() -> Answer + 'a) -> Box<dyn Fn() -> Answer + 'a> {
+    Box::new(call)
 }
 
 /// The obligations of all related pairs.
@@ -61,25 +107,6 @@ fn obligations(system: &System) -> usize {
     pairs
         .map(|(s, t)| steps(&system.left, s) + steps(&system.right, t))
         .sum()
-}
-
-/// 64 states with 4 steps each, one label, every pair related: all 32,768
-/// obligations are met by 2a.
-fn all_related() -> System {
-    let step = |j: usize| Step {
-        from: j / 4,
-        to: (j / 4 + j % 4 + 1) % 64,
-    };
-    let table = Table {
-        start: 0,
-        marks: vec![0; 64],
-        steps: (0..256).map(step).collect(),
-    };
-    System {
-        left: table.clone(),
-        right: table,
-        related: vec![vec![true; 64]; 64],
-    }
 }
 
 /// The labels of the first pair differ.
@@ -107,61 +134,48 @@ fn last_fails() -> System {
     system
 }
 
-fn main() {
-    let cases = [
-        Case::new("accepted", &all_related(), [0, 0, 4096, 32_768, 0, 0]),
-        Case::new("first check fails", &first_fails(), [17, 2, 0, 0, 0, 0]),
-        Case::new("last check fails", &last_fails(), [18, 2, 1, 63, 63, 255]),
-    ];
-    for case in &cases {
-        for (name, judge) in JUDGES {
-            assert_eq!(case.judge(judge), case.answer, "{}, {name}", case.name);
-        }
-    }
-
-    println!("64 states and 256 steps a side, medians of {ROUNDS} rounds");
-    for case in &cases {
-        report(case);
-    }
-}
-
-fn report(case: &Case) {
-    let rounds = rounds(case);
-    let time = |judge: usize| median(rounds.iter().map(|times| times[judge]));
-    print!("{}: {:.1} us", case.name, time(0) / 1e3);
-    match case.obligations {
+fn report(contest: &Contest) {
+    let rounds = rounds(contest);
+    let time = |version: usize| median(rounds.iter().map(|times| times[version]));
+    print!("  {}: {:.1} us", contest.name, time(0) / 1e3);
+    match contest.obligations {
         0 => println!(", before any obligation"),
         n => println!(", {:.2} ns for each of {n} obligations", time(0) / n as f64),
     }
-    for (i, (name, _)) in JUDGES.iter().enumerate().skip(1) {
+    for (i, (version, _)) in contest.calls.iter().enumerate().skip(1) {
         // Of each round, so that a slow round is slow for both.
         let ratio = median(rounds.iter().map(|times| times[0] / times[i]));
         println!(
-            "    {ratio:.3} of the {name} judge's time, {:.1} us",
+            "    {ratio:.3} of the {version}'s time, {:.1} us",
             time(i) / 1e3
         );
     }
 }
 
-/// The time of a call in nanoseconds, in every round for each judge.
-fn rounds(case: &Case) -> Vec<[f64; 3]> {
-    let calls = JUDGES.map(|(_, judge)| {
-        let begun = Instant::now();
-        let mut calls = 0;
-        while begun.elapsed() < TURN {
-            case.judge(judge);
-            calls += 1;
-        }
-        calls
-    });
-    let turn = |i: usize| {
-        let begun = Instant::now();
-        for _ in 0..calls[i] {
-            case.judge(JUDGES[i].1);
-        }
-        begun.elapsed().as_nanos() as f64 / f64::from(calls[i])
+/// The time of a call in nanoseconds, in every round for each version.
+fn rounds(contest: &Contest) -> Vec<Vec<f64>> {
+    let counts: Vec<u32> = (contest.calls.iter())
+        .map(|(_, call)| {
+            let begun = Instant::now();
+            let mut count = 0;
+            while begun.elapsed() < TURN {
+                call();
+                count += 1;
+            }
+            count
+        })
+        .collect();
+    let round = || {
+        let turns = contest.calls.iter().zip(&counts);
+        turns.map(|((_, call), &count)| {
+            let begun = Instant::now();
+            for _ in 0..count {
+                call();
+            }
+            begun.elapsed().as_nanos() as f64 / f64::from(count)
+        })
     };
-    (0..ROUNDS).map(|_| [turn(0), turn(1), turn(2)]).collect()
+    (0..ROUNDS).map(|_| round().collect()).collect()
 }
 
 fn median(numbers: impl Iterator<Item = f64>) -> f64 {
