@@ -1,32 +1,9 @@
 /* Judges the three files that are named on the command line, left, right and certificate, and prints the six numbers. From the repository's folder:
  *
  *     rt staticlib stutter
- *     cc -I include examples/judge.c target/staticlib/libstutter.a -o judge
+ *     cc -I include examples/judge.c target/staticlib/libstutter.a -o target/judge
  */
-#include "stutter.h"
-
-#include <inttypes.h>
-#include <stdio.h>
-
-/* No file that is accepted is longer; a longer one is refused for its length, as its first bytes alone are. */
-enum { MOST = 65536 };
-
-struct file {
-    uint8_t bytes[MOST];
-    size_t length;
-};
-
-static bool read_file(const char *name, struct file *file)
-{
-    FILE *stream = fopen(name, "rb");
-    if (stream == NULL) {
-        perror(name);
-        return false;
-    }
-    file->length = fread(file->bytes, 1, MOST, stream);
-    fclose(stream);
-    return true;
-}
+#include "files.h"
 
 int main(int count, char **words)
 {
@@ -43,7 +20,6 @@ int main(int count, char **words)
     if (!stutter_judge(files[0].bytes, files[0].length, files[1].bytes, files[1].length, files[2].bytes, files[2].length,
                        answer, STUTTER_ANSWER_LENGTH))
         return 2;
-    for (int i = 0; i < STUTTER_ANSWER_LENGTH; i++)
-        printf("%" PRIu64 "%c", answer[i], i + 1 < STUTTER_ANSWER_LENGTH ? ' ' : '\n');
+    print_answer(answer);
     return 0;
 }

@@ -36,6 +36,20 @@ fn the_largest_certificates_are_made() {
     }
 }
 
+/// A stack of 1 MiB is enough for the largest tables.
+#[test]
+fn a_small_stack_is_enough() {
+    for system in [all_related(), long_chains(), long_distances()] {
+        let (left, right) = (system.left_bytes(), system.right_bytes());
+        let relation = system.relation_bytes();
+        let mut output = vec![0; 41_483];
+        let small = std::thread::Builder::new().stack_size(1 << 20);
+        let thread = small.spawn(move || stutter::make(&left, &right, &relation, &mut output));
+        let made = thread.expect("the thread starts").join();
+        assert_eq!(made.expect("the thread ends"), [0, 0, 41_483, 0, 0, 0]);
+    }
+}
+
 /// With fewer than six places neither they nor the output change.
 #[test]
 fn a_short_answer_leaves_all_alone() {
