@@ -36,11 +36,13 @@ returns-2 : tie.Need-returns-2
 unfolding hasRoom whereRoom
 returns-2 c =
     let begun = c .before .before .before .before .before .before .before .before in
-    let places = now (begun .before .before .before .before .before .before .args .answer) in
+    let a = begun .before .before .before .before .before .before .args in
+    let places = now (a .answer) in
+    let answer = makeAnswer (now (a .left)) (now (a .right)) (now (a .relation)) (now (a .output)) in
     let room = le-leb 6 (length places) (begun .if1 .left) in
     let made = c .before .before .before .before .before .before .make .ensures in
     let put = c .before .before .put-numbers .ensures in
-    (put .0, (put .1 ∙ ap (λ (x : Answer). answered x places) (made .0), simp room (made .1)))
+    (put .0, (put .1 ∙ ap (λ (x : Answer). answered x places) {y = answer} (made .0), simp room (made .1)))
 
 pub stutter-make-spec : {M : Type 1} → statement M
 stutter-make-spec = tie.close (tie.spec returns make-requires put-numbers-requires same-length same-length-2 returns-2)
