@@ -8,7 +8,7 @@ mod report;
 
 use inputs::{JudgeCases, MakeCases, ProgramCases, Random, PROGRAM_FORMS};
 use names::{limit_names, name, names, size_names};
-pub use path_property::{Implementation, Seen};
+pub use path_property::Implementation;
 pub use report::Report;
 
 type Answer = [u64; 6];

@@ -4,6 +4,7 @@
 use crate::Answer;
 use inputs::{relation_bytes, table_bytes, MakeCases, Random};
 use oracle::{Layout, Step, Table};
+use std::thread;
 
 /// A maker, and the judge that is to accept what it makes and nothing that cannot be
 /// made.
@@ -15,14 +16,34 @@ pub struct Implementation {
 
 /// How many relations had the path property, and how many had not.
 #[derive(Default, Debug)]
-pub struct Seen {
-    pub with: usize,
-    pub without: usize,
+struct Seen {
+    with: usize,
+    without: usize,
+}
+
+impl Seen {
+    fn require(&self, least: usize) {
+        assert!(self.with >= least && self.without >= least, "{self:?}");
+    }
 }
 
 impl Implementation {
+    /// Panics at the first system where the maker succeeds without the path property
+    /// or is refused with it, and where too few systems had it or had it not.
+    pub fn require_path_property(self) {
+        let small = [(1, 1), (1, 2), (2, 1), (2, 2), (1, 3), (3, 1)];
+        thread::scope(|scope| {
+            scope.spawn(move || small.map(|(n1, n2)| self.check_all(n1, n2).require(1)));
+            scope.spawn(move || self.check_all(2, 3).require(1_000));
+            scope.spawn(move || self.check_all(3, 2).require(1_000));
+            scope.spawn(move || self.check_starts_and_marks().require(1_000));
+            scope.spawn(move || self.check_three_states(200_000).require(1_000));
+            scope.spawn(move || self.check_generated(100_000).require(1_000));
+        });
+    }
+
     /// All tables of these sizes with start 0 and equal marks, and all relations.
-    pub fn check_all(self, n1: usize, n2: usize) -> Seen {
+    fn check_all(self, n1: usize, n2: usize) -> Seen {
         let mut check = Check::new(self, 1);
         for left_steps in 0..1 << (n1 * n1) {
             let left = table(0, &vec![0; n1], left_steps);
@@ -37,7 +58,7 @@ impl Implementation {
     }
 
     /// Two states a side with every start and every choice of two marks.
-    pub fn check_starts_and_marks(self) -> Seen {
+    fn check_starts_and_marks(self) -> Seen {
         let mut check = Check::new(self, 2);
         for choice in 0..1 << 18 {
             let bits = |place: usize, count: usize| choice >> place & ((1 << count) - 1);
@@ -50,7 +71,7 @@ impl Implementation {
     }
 
     /// A sample of the systems of three states a side.
-    pub fn check_three_states(self, count: usize) -> Seen {
+    fn check_three_states(self, count: usize) -> Seen {
         let mut check = Check::new(self, 3);
         let mut random = Random::new(!3);
         for _ in 0..count {
@@ -65,7 +86,7 @@ impl Implementation {
 
     /// Those of `count` generated inputs of the maker that are well formed and have
     /// at most four states a side.
-    pub fn check_generated(self, count: usize) -> Seen {
+    fn check_generated(self, count: usize) -> Seen {
         let mut check = Check::new(self, 4);
         for case in MakeCases::new(5, count) {
             let (left, right, relation) = (&case.left, &case.right, &case.relation);
