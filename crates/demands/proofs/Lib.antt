@@ -7,5 +7,6 @@ pub mod JudgeExact
 pub mod AgreeLaws
 pub mod RelationsExact
 pub mod RankWords
+pub mod MakerExact
 pub mod StarredExamples
 pub mod UnrelatedRanks

@@ -2,4 +2,5 @@ pub mod Checks
 pub mod Judged
 pub mod Ranks
 pub mod Demand2
+pub mod Demand3
 pub mod Examples

@@ -1,20 +1,19 @@
 -- From bytes to the theory: for two tables and a relation that are read, with the words of the relation and the tables of distances and of chain lengths,
 -- what is read off them is the theory's examination of their view. A side is a view: one law serves the left side and the right. Assumes nothing.
-use Prim.Native.Nat.{ℕ, _+_, _*_, _^_, _≤_, _<_}
+use Prim.Native.Nat.{ℕ, _^_, _≤_, _<_}
 use mathlib.Core.Path.{_≡_, refl, sym, ap, ap₂, _∙_, fun-ext}
 use mathlib.Core.Logic.{_↔_}
 use mathlib.Core.Bool.{Bool, true, false, cond, _&&_, _||_}
 use mathlib.Core.List.{List, map}
 use native.Mathlib.Omega.{arith}
 use native.Mathlib.Decide.{decLt}
-use lib.Dec.{T, ltb, leb, eqb, eqb→eq}
+use lib.Dec.{T, ltb, leb, eqb}
 use lib.ListN.{length, getD}
 use Rattle.lists.specs.Lists.{grid}
-use Rattle.lists.specs.Numbers.{byteAt}
 use Rattle.lists.proofs.FillLaws.{getD-past}
 use Rattle.words.specs.Bits.{hasBit}
 use Rattle.bisimulation.specs.Systems.{View, WellFormed, flip}
-use Rattle.bisimulation.specs.Maker.{matched, distance, chainLength, succeeds}
+use Rattle.bisimulation.specs.Maker.{distance, succeeds}
 use Rattle.tables.specs.declared.Head.{Head}
 use Rattle.tables.specs.declared.TableRead.the-variants as table
 use Rattle.tables.specs.Table.{statesOf, startOf, stepsPart, toOf, readTable}
@@ -37,7 +36,7 @@ use Rattle.lengths.proofs.AgreementLaws.{tables-agree}
 use Rattle.lengths.proofs.DistanceLaws.{matched-test}
 use Rattle.lengths.proofs.LengthTableLaws.{cell-distance, cell-chain}
 use Rattle.examination.specs.declared.Starts.{Starts}
-use Rattle.examination.specs.Examine.{followedBy, firstStop, firstOf, stepAnswer, labelsAnswer, chainAnswer, answered, resultBy, makerResult, endlessAt, firstChain, endless, startsVerdict, examined}
+use Rattle.examination.specs.Examine.{followedBy, firstStop, stepAnswer, labelsAnswer, chainAnswer, answered, resultBy, makerResult, endlessAt, firstChain, endless, startsVerdict, examined}
 use Rattle.examination.specs.Walk.{wordsView, answeredBy, longBy, verdictIf, stepsVerdict, pairVerdict, rowVerdict, pairsVerdict, examinedBy}
 use Rattle.examination.proofs.VerdictLaws.{of-cong}
 use Rattle.examination.proofs.WalkLaws.{pairs-stop}
@@ -63,7 +62,7 @@ module _ (own other words : List ℕ) (v : View) (a : Agrees v (sideOf words (st
       (a .related (v .own .to j) t ∙ ap (λ (u : ℕ). hasBit (wordOf words u) t) (a .own-to j) ∙ ap (λ (w : ℕ). hasBit w t) (word-of-64 words len (toOf (stepsPart own) j))))
 
   -- a step may be kept by the table of distances where the theory keeps it
-  pub side-answered : (j t : ℕ) → j < v .own .steps → t < 64 → answeredBy own words distancesOf (statesOf other) j t ≡ answered v j t
+  pub side-answered : (j t : ℕ) → j < v .own .steps → t < 64 → answeredBy (stepsPart own) words distancesOf (statesOf other) j t ≡ answered v j t
   unfolding answeredBy answered
   side-answered j t h l =
       ap₂ _||_
@@ -180,13 +179,13 @@ module _ (left right rows : List ℕ) {h k : Head} {y : Sizes} (gl : readTable l
       (omega arith, omega arith)
 
   -- 17 and 22
-  pairs-are : firstStop (map (resultBy (wordsView left right leftWords) (answeredBy left leftWords leftDistances (statesOf right)) (answeredBy right rightWords rightDistances (statesOf left))) (checks (wordsView left right leftWords)))
+  pairs-are : firstStop (map (resultBy (wordsView left right leftWords) (answeredBy (stepsPart left) leftWords leftDistances (statesOf right)) (answeredBy (stepsPart right) rightWords rightDistances (statesOf left))) (checks (wordsView left right leftWords)))
       ≡ firstStop (map (makerResult view) (checks view))
   unfolding makerResult
   pairs-are =
-      ap (λ (v : View). firstStop (map (resultBy v (answeredBy left leftWords leftDistances (statesOf right)) (answeredBy right rightWords rightDistances (statesOf left))) (checks v))) view-is
-      ∙ pairs-stop view (answeredBy left leftWords leftDistances (statesOf right)) (answeredBy right rightWords rightDistances (statesOf left))
-      ∙ pairs-cong view (answeredBy left leftWords leftDistances (statesOf right)) (answeredBy right rightWords rightDistances (statesOf left)) (answered view) (answered (flip view))
+      ap (λ (v : View). firstStop (map (resultBy v (answeredBy (stepsPart left) leftWords leftDistances (statesOf right)) (answeredBy (stepsPart right) rightWords rightDistances (statesOf left))) (checks v))) view-is
+      ∙ pairs-stop view (answeredBy (stepsPart left) leftWords leftDistances (statesOf right)) (answeredBy (stepsPart right) rightWords rightDistances (statesOf left))
+      ∙ pairs-cong view (answeredBy (stepsPart left) leftWords leftDistances (statesOf right)) (answeredBy (stepsPart right) rightWords rightDistances (statesOf left)) (answered view) (answered (flip view))
       (λ s t j r l. side-answered left right leftWords view left-agrees (rows-length rows (statesOf left)) j t l (related-small s t r .1))
       (λ s t j r l. side-answered right left rightWords (flip view) right-agrees (columns-length leftWords) j s l (related-small s t r .0))
       ∙ sym (pairs-stop view (answered view) (answered (flip view)))

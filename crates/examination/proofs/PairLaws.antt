@@ -1,48 +1,47 @@
 -- Laws of a pair as it is read off the tables: which of its four ends it comes to. Assumes nothing.
 use Prim.Native.Nat.{ℕ, _≤_, _<_}
-use mathlib.Core.Path.{_≡_, refl, sym, ap, ap₂, _∙_, subst}
-use mathlib.Core.Bool.{Bool, cond}
+use mathlib.Core.Path.{_≡_, sym, ap, ap₂, _∙_, subst}
+use mathlib.Core.Bool.{Bool}
 use mathlib.Core.List.{List}
 use borrow.Author.Tests.{eq-eqb, ne-eqb}
-use lib.Dec.{eqb}
 use Rattle.lists.specs.Below.{firstBelow}
-use Rattle.tables.specs.Table.{statesOf, stepsOf, labelsPart, labelOf}
+use Rattle.tables.specs.Table.{statesOf, stepsOf, labelsPart, stepsPart, labelOf}
 use Rattle.tables.specs.Model.{systemOf}
 use Rattle.tables.specs.declared.Answer.{Answer}
 use Rattle.obligations.specs.Judging.{Verdict, accepted, refusedWith}
-use Rattle.examination.specs.declared.Examined.{Examined}
-use Rattle.examination.specs.declared.Examined.the-variants.{Passed, Stopped}
+use Rattle.examination.specs.declared.Examined.the-variants.{Stopped}
 use Rattle.examination.specs.Examine.{followedBy, labelsAnswer, stepAnswer}
 use Rattle.examination.specs.Walk.{asExamined, wordsView, answeredBy, unansweredBy, verdictIf, stepsVerdict, pairVerdict}
 use Rattle.examination.proofs.WalkLaws.{steps-refused, steps-kept}
 
 -- ---- the first step of a table that may not be kept
 
-module _ (table words distances : List ℕ) (s t : ℕ) {n m k : ℕ} (states : ℕ) (answer : ℕ → Answer) (en : n ≡ states) (em : m ≡ stepsOf table)
-    (ek : k ≡ firstBelow (stepsOf table) (unansweredBy table words distances n s t)) where
-  pub side-refused : k < m → stepsVerdict (systemOf table) (λ j. answeredBy table words distances states j t) s answer ≡ refusedWith (answer k)
-  unfolding systemOf unansweredBy
-  side-refused l =
-      steps-refused (systemOf table) (λ j. answeredBy table words distances states j t) s answer
-      (ek ∙ ap (λ (i : ℕ). firstBelow (stepsOf table) (unansweredBy table words distances i s t)) en) (subst (λ (i : ℕ). k < i) em l)
+module _ (table words distances : List ℕ) (s t : ℕ) {list : List ℕ} {n m k : ℕ} (states : ℕ) (answer : ℕ → Answer) (el : list ≡ stepsPart table) (en : n ≡ states)
+    (em : m ≡ stepsOf table) (ek : k ≡ firstBelow m (unansweredBy list words distances n s t)) where
+  first-is : k ≡ firstBelow (stepsOf table) (unansweredBy (stepsPart table) words distances states s t)
+  first-is =
+      ek ∙ ap (λ (i : ℕ). firstBelow i (unansweredBy list words distances n s t)) em
+      ∙ ap₂ (λ (l : List ℕ) (i : ℕ). firstBelow (stepsOf table) (unansweredBy l words distances i s t)) el en
 
-  pub side-kept : m ≤ k → stepsVerdict (systemOf table) (λ j. answeredBy table words distances states j t) s answer ≡ accepted
+  pub side-refused : k < m → stepsVerdict (systemOf table) (λ j. answeredBy (stepsPart table) words distances states j t) s answer ≡ refusedWith (answer k)
   unfolding systemOf unansweredBy
-  side-kept l =
-      steps-kept (systemOf table) (λ j. answeredBy table words distances states j t) s answer
-      (ek ∙ ap (λ (i : ℕ). firstBelow (stepsOf table) (unansweredBy table words distances i s t)) en) (subst (λ (i : ℕ). i ≤ k) em l)
+  side-refused l = steps-refused (systemOf table) (λ j. answeredBy (stepsPart table) words distances states j t) s answer first-is (subst (λ (i : ℕ). k < i) em l)
+
+  pub side-kept : m ≤ k → stepsVerdict (systemOf table) (λ j. answeredBy (stepsPart table) words distances states j t) s answer ≡ accepted
+  unfolding systemOf unansweredBy
+  side-kept l = steps-kept (systemOf table) (λ j. answeredBy (stepsPart table) words distances states j t) s answer first-is (subst (λ (i : ℕ). i ≤ k) em l)
 
 -- ---- the four ends of a pair
 
 module _ (left right rows columns distances others : List ℕ) (s t : ℕ) where
   abbrev pub pairAt : Verdict
-  pairAt = pairVerdict (wordsView left right rows) (answeredBy left rows distances (statesOf right)) (answeredBy right columns others (statesOf left)) s t
+  pairAt = pairVerdict (wordsView left right rows) (answeredBy (stepsPart left) rows distances (statesOf right)) (answeredBy (stepsPart right) columns others (statesOf left)) s t
 
   abbrev leftSteps : Verdict
-  leftSteps = stepsVerdict (systemOf left) (λ j. answeredBy left rows distances (statesOf right) j t) s (stepAnswer 0 s t)
+  leftSteps = stepsVerdict (systemOf left) (λ j. answeredBy (stepsPart left) rows distances (statesOf right) j t) s (stepAnswer 0 s t)
 
   abbrev rightSteps : Verdict
-  rightSteps = stepsVerdict (systemOf right) (λ j. answeredBy right columns others (statesOf left) j s) t (stepAnswer 1 s t)
+  rightSteps = stepsVerdict (systemOf right) (λ j. answeredBy (stepsPart right) columns others (statesOf left) j s) t (stepAnswer 1 s t)
 
   module _ {ll rl : List ℕ} {x y : ℕ} (el : ll ≡ labelsPart left) (er : rl ≡ labelsPart right) (ex : x ≡ labelOf ll s) (ey : y ≡ labelOf rl t) where
     label-left : systemOf left .label s ≡ x

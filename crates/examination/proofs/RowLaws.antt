@@ -1,23 +1,21 @@
 -- Laws of a left state, of all pairs, of the chains of a side and of the whole examination, as they are read off the tables: where each loop stops, and
 -- where it goes on. Assumes nothing.
-use Prim.Native.Nat.{ℕ, _+_, _^_, _≤_, _<_, min}
-use mathlib.Core.Path.{_≡_, refl, sym, ap, ap₂, _∙_, subst}
+use Prim.Native.Nat.{ℕ, _^_, _≤_, _<_, min}
+use mathlib.Core.Path.{_≡_, sym, ap, ap₂, _∙_, subst}
 use mathlib.Core.Bool.{Bool, true, false, cond}
-use mathlib.Core.List.{List, map}
+use mathlib.Core.List.{List}
 use native.Mathlib.Omega.{arith}
-use lib.Dec.{T}
 use lib.ListN.{getD}
 use Rattle.lists.specs.Below.{firstBelow}
 use Rattle.lists.proofs.BoolLaws.{cond-true, cond-false}
 use Rattle.words.specs.Bits.{hasBit}
-use Rattle.tables.specs.Table.{statesOf}
+use Rattle.tables.specs.Table.{statesOf, stepsPart}
 use Rattle.tables.specs.Model.{systemOf}
 use Rattle.tables.specs.declared.Answer.{Answer}
-use Rattle.obligations.specs.Judging.{checks, Verdict, accepted, refusedWith}
-use Rattle.examination.specs.declared.Examined.{Examined}
+use Rattle.obligations.specs.Judging.{Verdict, accepted, refusedWith}
 use Rattle.examination.specs.declared.Examined.the-variants.{Passed, Stopped}
 use Rattle.examination.specs.declared.Starts.{Starts}
-use Rattle.examination.specs.Examine.{followedBy, firstStop, firstOf, startsAnswer, chainAnswer, resultBy, firstChain, startsVerdict}
+use Rattle.examination.specs.Examine.{followedBy, firstOf, startsAnswer, chainAnswer, firstChain, startsVerdict}
 use Rattle.examination.specs.Walk.{asExamined, wordsView, answeredBy, longBy, rowVerdict, pairsVerdict, examinedBy}
 use Rattle.examination.proofs.VerdictLaws.{of-none, of-hit, test-hit, test-none, was-accepted, was-refused}
 use Rattle.examination.proofs.WalkLaws.{InWord, word-refused, word-end, pairs-stop}
@@ -27,7 +25,7 @@ module _ (left right rows columns distances others : List ℕ) where
   -- ---- a left state
 
   abbrev pub rowAt : ℕ → Verdict
-  rowAt s = rowVerdict (wordsView left right rows) (answeredBy left rows distances (statesOf right)) (answeredBy right columns others (statesOf left)) s
+  rowAt s = rowVerdict (wordsView left right rows) (answeredBy (stepsPart left) rows distances (statesOf right)) (answeredBy (stepsPart right) columns others (statesOf left)) s
 
   module _ (s : ℕ) {rest t n : ℕ} (w : InWord (pairAt left right rows columns distances others s) (getD rows s 0) rest t) (e : n ≡ min (statesOf right) 64) where
     pub row-stops : {a : Answer} → t < n → asExamined (pairAt left right rows columns distances others s t) ≡ Stopped a → Stopped a ≡ asExamined (rowAt s)
@@ -42,7 +40,7 @@ module _ (left right rows columns distances others : List ℕ) where
   -- ---- all pairs
 
   abbrev pub pairsAt : Verdict
-  pairsAt = pairsVerdict (wordsView left right rows) (answeredBy left rows distances (statesOf right)) (answeredBy right columns others (statesOf left))
+  pairsAt = pairsVerdict (wordsView left right rows) (answeredBy (stepsPart left) rows distances (statesOf right)) (answeredBy (stepsPart right) columns others (statesOf left))
 
   module _ {s n : ℕ} (w : (i : ℕ) → i < s → rowAt i ≡ accepted) (e : n ≡ statesOf left) where
     pub rows-stop : {a : Answer} → s < n → asExamined (rowAt s) ≡ Stopped a → Stopped a ≡ asExamined pairsAt
@@ -97,7 +95,7 @@ module _ (left right rows columns distances others chains loops : List ℕ) (sta
   unfolding examinedBy
   by-pairs =
       ap (λ (x : Verdict). followedBy (startsVerdict (wordsView left right rows) (starts .left) (starts .right)) (followedBy x (followedBy leftChains rightChains)))
-      (pairs-stop (wordsView left right rows) (answeredBy left rows distances (statesOf right)) (answeredBy right columns others (statesOf left)))
+      (pairs-stop (wordsView left right rows) (answeredBy (stepsPart left) rows distances (statesOf right)) (answeredBy (stepsPart right) columns others (statesOf left)))
 
   module _ {w : ℕ} (e : w ≡ getD rows (starts .left) 0) where
     start-is : {b : Bool} → hasBit w (starts .right) ≡ b → startsVerdict (wordsView left right rows) (starts .left) (starts .right) ≡ cond b accepted (refusedWith (startsAnswer (starts .left) (starts .right)))

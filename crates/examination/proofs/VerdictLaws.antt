@@ -32,10 +32,6 @@ pub one-refused : (x y : Verdict) (a : Answer) → followedBy x y ≡ refusedWit
 one-refused accepted y a e = inr (refl, e)
 one-refused (refusedWith b) y a e = inl e
 
-pub followed-end : (x : Verdict) → followedBy x accepted ≡ x
-followed-end accepted = refl
-followed-end (refusedWith a) = refl
-
 -- ---- as the examination gives it
 
 passed-not-stopped : {a : Answer} → _≡_ {A = Examined} Passed (Stopped a) → ⊥

@@ -1,15 +1,15 @@
 -- Laws of the walk: the verdicts of pairs in the order of the walk are the first stop of the checks in judging order, and what a loop over a left
 -- state's related states keeps. Assumes nothing.
-use Prim.Native.Nat.{ℕ, suc, _+_, _^_, _≤_, _<_, min}
+use Prim.Native.Nat.{ℕ, _+_, _^_, _≤_, _<_, min}
 use mathlib.Core.Path.{_≡_, refl, sym, ap, ap₂, _∙_, subst}
 use mathlib.Core.Bool.{Bool, true, false, cond, not, _&&_}
-use mathlib.Core.List.{List, [], _∷_, _++_, map}
+use mathlib.Core.List.{[], _∷_, _++_, map}
 use native.Mathlib.Omega.{arith}
 use native.Mathlib.Decide.{ℕ-discrete, decLt}
-use lib.Dec.{T, ltb, leb, eqb}
+use lib.Dec.{T, eqb}
 use borrow.Author.Tests.{eq-eqb, ne-eqb}
 use Rattle.lists.specs.Below.{firstBelow}
-use Rattle.lists.proofs.BoolLaws.{and-r, T-true, not-T-false, true-T}
+use Rattle.lists.proofs.BoolLaws.{and-r, T-true, not-T-false}
 use Rattle.words.specs.Bits.{hasBit, firstBit, removeBit}
 use Rattle.words.proofs.BitLaws as bits
 use Rattle.bisimulation.specs.Systems.{System, View}

@@ -1,2 +1,3 @@
+-- The maker's examination, and how it is read off the tables.
 pub mod Examine
 pub mod Walk

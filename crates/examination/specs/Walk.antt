@@ -27,13 +27,13 @@ asExamined (refusedWith answer) = Stopped answer
 abbrev pub wordsView : (left right words : List ℕ) → View
 wordsView left right words = record { own = systemOf left; other = systemOf right; related = λ s t. hasBit (getD words s 0) t; answers = λ j k. true }
 
--- The table's step j may be kept at t: its distance is below the number n of the other side's states, or the state that it enters is related to t.
-unfoldable pub answeredBy : (table words distances : List ℕ) → ℕ → ℕ → ℕ → Bool
-answeredBy table words distances n j t = ltb (byteAt distances (j * 64 + t)) n || hasBit (getD words (toOf (stepsPart table) j) 0) t
+-- Step j of a side may be kept at t: its distance is below the number n of the other side's states, or the state that it enters is related to t.
+unfoldable pub answeredBy : (steps words distances : List ℕ) → ℕ → ℕ → ℕ → Bool
+answeredBy steps words distances n j t = ltb (byteAt distances (j * 64 + t)) n || hasBit (getD words (toOf steps j) 0) t
 
 -- It leaves s, and may not be kept.
-unfoldable pub unansweredBy : (table words distances : List ℕ) → ℕ → ℕ → ℕ → ℕ → Bool
-unansweredBy table words distances n s t j = eqb (fromOf (stepsPart table) j) s && not (answeredBy table words distances n j t)
+unfoldable pub unansweredBy : (steps words distances : List ℕ) → ℕ → ℕ → ℕ → ℕ → Bool
+unansweredBy steps words distances n s t j = eqb (fromOf steps j) s && not (answeredBy steps words distances n j t)
 
 -- The word of the fixed state b has c, and the chain length at b from c is n or more.
 unfoldable pub longBy : (words chains : List ℕ) → ℕ → ℕ → ℕ → Bool
@@ -71,5 +71,5 @@ examinedBy left right rows columns distances distances′ chains chains′ start
     let n1 = statesOf left in
     let n2 = statesOf right in
     followedBy (startsVerdict v (starts .left) (starts .right))
-    (followedBy (firstStop (map (resultBy v (answeredBy left rows distances n2) (answeredBy right columns distances′ n1)) (checks v)))
+    (followedBy (firstStop (map (resultBy v (answeredBy (stepsPart left) rows distances n2) (answeredBy (stepsPart right) columns distances′ n1)) (checks v)))
     (followedBy (firstChain 0 n2 n1 (longBy columns chains n1)) (firstChain 1 n1 n2 (longBy rows chains′ n2))))

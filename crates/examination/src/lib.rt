@@ -10,9 +10,9 @@ use tables::step_count;
 use tables::steps;
 use tables::to;
 ghost use mathlib.Core.Path.{_≡_};
-ghost use Prim.Native.Nat.{ℕ, _<_, min};
+ghost use Prim.Native.Nat.{_<_, min};
 ghost use Rattle.lists.specs.Below.{firstBelow};
-ghost use Rattle.tables.specs.Table.{statesOf, stepsOf};
+ghost use Rattle.tables.specs.Table.{statesOf, stepsPart};
 ghost use Rattle.examination.specs.Examine.{firstChain};
 ghost use Rattle.examination.specs.Walk.{asExamined, wordsView, answeredBy, unansweredBy, longBy, pairVerdict, rowVerdict, pairsVerdict, examinedBy};
 
@@ -28,9 +28,9 @@ pub struct Starts {
     pub right: usize,
 }
 
-// Whether the table's step j leaves s and may not be kept at t. The other side has n states.
+// Whether step j of the list leaves s and may not be kept at t. The other side has n states.
 fn is_unanswered(
-    table: &[u8],
+    list: &[u8],
     words: &[u64],
     distances: &[u8],
     n: usize,
@@ -39,9 +39,8 @@ fn is_unanswered(
     j: usize,
 ) -> bool
     requires { ⌜ (j < 65536) × (t < 256) ⌝ }
-    ensures { λ r. ⌜ r ≡ unansweredBy (now (table .entry)) (now (words .entry)) (now (distances .entry)) n s t j ⌝ }
+    ensures { λ r. ⌜ r ≡ unansweredBy (now (list .entry)) (now (words .entry)) (now (distances .entry)) n s t j ⌝ }
 {
-    let list = steps(table);
     if from(list, j) != s {
         return false;
     }
@@ -52,22 +51,22 @@ fn is_unanswered(
     !entered.has(t)
 }
 
-// The first step from s that may not be kept at t, and the number of steps where there is none.
+// The first of the m steps that leaves s and may not be kept at t, and m where there is none.
 fn first_unanswered(
-    table: &[u8],
+    list: &[u8],
+    m: usize,
     words: &[u64],
     distances: &[u8],
     n: usize,
     s: usize,
     t: usize,
 ) -> usize
-    requires { ⌜ t < 256 ⌝ }
-    ensures { λ r. ⌜ r ≡ firstBelow (stepsOf (now (table .entry))) (unansweredBy (now (table .entry)) (now (words .entry)) (now (distances .entry)) n s t) ⌝ }
+    requires { ⌜ (m < 65536) × (t < 256) ⌝ }
+    ensures { λ r. ⌜ r ≡ firstBelow m (unansweredBy (now (list .entry)) (now (words .entry)) (now (distances .entry)) n s t) ⌝ }
 {
-    let m = step_count(table);
     let mut j: usize = 0;
     while j < m {
-        if is_unanswered(table, words, distances, n, s, t, j) {
+        if is_unanswered(list, words, distances, n, s, t, j) {
             return j;
         }
         j += 1;
@@ -82,12 +81,12 @@ fn check_pair(
     rows: &[u64],
     columns: &[u64],
     distances: &[u8],
-    others: &[u8],
+    distances2: &[u8],
     s: usize,
     t: usize,
 ) -> Examined
     requires { ⌜ (s < 256) × (t < 256) ⌝ }
-    ensures { λ r. ⌜ r ≡ asExamined (pairVerdict (wordsView (now (left .entry)) (now (right .entry)) (now (rows .entry))) (answeredBy (now (left .entry)) (now (rows .entry)) (now (distances .entry)) (statesOf (now (right .entry)))) (answeredBy (now (right .entry)) (now (columns .entry)) (now (others .entry)) (statesOf (now (left .entry)))) s t) ⌝ }
+    ensures { λ r. ⌜ r ≡ asExamined (pairVerdict (wordsView (now (left .entry)) (now (right .entry)) (now (rows .entry))) (answeredBy (stepsPart (now (left .entry))) (now (rows .entry)) (now (distances .entry)) (statesOf (now (right .entry)))) (answeredBy (stepsPart (now (right .entry))) (now (columns .entry)) (now (distances2 .entry)) (statesOf (now (left .entry)))) s t) ⌝ }
 {
     if label(labels(left), s) != label(labels(right), t) {
         return Examined::Stopped(Answer {
@@ -99,8 +98,10 @@ fn check_pair(
             d: 0,
         });
     }
-    let j = first_unanswered(left, rows, distances, states(right), s, t);
-    if j < step_count(left) {
+    let ours = steps(left);
+    let m = step_count(left);
+    let j = first_unanswered(ours, m, rows, distances, states(right), s, t);
+    if j < m {
         return Examined::Stopped(Answer {
             code: 22,
             file: 2,
@@ -110,8 +111,10 @@ fn check_pair(
             d: j,
         });
     }
-    let k = first_unanswered(right, columns, others, states(left), t, s);
-    if k < step_count(right) {
+    let theirs = steps(right);
+    let m2 = step_count(right);
+    let k = first_unanswered(theirs, m2, columns, distances2, states(left), t, s);
+    if k < m2 {
         return Examined::Stopped(Answer {
             code: 22,
             file: 2,
@@ -138,17 +141,17 @@ fn check_row(
     rows: &[u64],
     columns: &[u64],
     distances: &[u8],
-    others: &[u8],
+    distances2: &[u8],
     s: usize,
 ) -> Examined
     requires { ⌜ s < 256 ⌝ }
-    ensures { λ r. ⌜ r ≡ asExamined (rowVerdict (wordsView (now (left .entry)) (now (right .entry)) (now (rows .entry))) (answeredBy (now (left .entry)) (now (rows .entry)) (now (distances .entry)) (statesOf (now (right .entry)))) (answeredBy (now (right .entry)) (now (columns .entry)) (now (others .entry)) (statesOf (now (left .entry)))) s) ⌝ }
+    ensures { λ r. ⌜ r ≡ asExamined (rowVerdict (wordsView (now (left .entry)) (now (right .entry)) (now (rows .entry))) (answeredBy (stepsPart (now (left .entry))) (now (rows .entry)) (now (distances .entry)) (statesOf (now (right .entry)))) (answeredBy (stepsPart (now (right .entry))) (now (columns .entry)) (now (distances2 .entry)) (statesOf (now (left .entry)))) s) ⌝ }
 {
     let n = limit(states(right));
     let mut rest = word(rows, s);
     let mut t = rest.first();
     while t < n {
-        let pair = check_pair(left, right, rows, columns, distances, others, s, t);
+        let pair = check_pair(left, right, rows, columns, distances, distances2, s, t);
         let Examined::Passed = pair else {
             return pair;
         };
@@ -165,14 +168,14 @@ fn check_pairs(
     rows: &[u64],
     columns: &[u64],
     distances: &[u8],
-    others: &[u8],
+    distances2: &[u8],
 ) -> Examined
-    ensures { λ r. ⌜ r ≡ asExamined (pairsVerdict (wordsView (now (left .entry)) (now (right .entry)) (now (rows .entry))) (answeredBy (now (left .entry)) (now (rows .entry)) (now (distances .entry)) (statesOf (now (right .entry)))) (answeredBy (now (right .entry)) (now (columns .entry)) (now (others .entry)) (statesOf (now (left .entry))))) ⌝ }
+    ensures { λ r. ⌜ r ≡ asExamined (pairsVerdict (wordsView (now (left .entry)) (now (right .entry)) (now (rows .entry))) (answeredBy (stepsPart (now (left .entry))) (now (rows .entry)) (now (distances .entry)) (statesOf (now (right .entry)))) (answeredBy (stepsPart (now (right .entry))) (now (columns .entry)) (now (distances2 .entry)) (statesOf (now (left .entry))))) ⌝ }
 {
     let n = states(left);
     let mut s: usize = 0;
     while s < n {
-        let row = check_row(left, right, rows, columns, distances, others, s);
+        let row = check_row(left, right, rows, columns, distances, distances2, s);
         let Examined::Passed = row else {
             return row;
         };
@@ -231,20 +234,20 @@ fn check_chains(words: &[u64], chains: &[u8], side: usize, m: usize, n: usize) -
     Examined::Passed
 }
 
-// The examination of two tables and a relation: `rows` has a word for each left state and `columns` one for each right state; `distances` and `chains`
-// are those of the left steps, `others` and `loops` those of the right steps.
+// The examination of two tables and a relation. `rows` has a word for each left state and `columns` one for each right state; `distances` and `chains` are
+// those of the left side, `distances2` and `chains2` those of the right side.
 pub fn examine(
     left: &[u8],
     right: &[u8],
     rows: &[u64],
     columns: &[u64],
     distances: &[u8],
-    others: &[u8],
+    distances2: &[u8],
     chains: &[u8],
-    loops: &[u8],
+    chains2: &[u8],
     starts: Starts,
 ) -> Examined
-    ensures { λ r. ⌜ r ≡ asExamined (examinedBy (now (left .entry)) (now (right .entry)) (now (rows .entry)) (now (columns .entry)) (now (distances .entry)) (now (others .entry)) (now (chains .entry)) (now (loops .entry)) starts) ⌝ }
+    ensures { λ r. ⌜ r ≡ asExamined (examinedBy (now (left .entry)) (now (right .entry)) (now (rows .entry)) (now (columns .entry)) (now (distances .entry)) (now (distances2 .entry)) (now (chains .entry)) (now (chains2 .entry)) starts) ⌝ }
 {
     let related = word(rows, starts.left);
     if !related.has(starts.right) {
@@ -257,7 +260,7 @@ pub fn examine(
             d: 0,
         });
     }
-    let pairs = check_pairs(left, right, rows, columns, distances, others);
+    let pairs = check_pairs(left, right, rows, columns, distances, distances2);
     let Examined::Passed = pairs else {
         return pairs;
     };
@@ -265,5 +268,5 @@ pub fn examine(
     let Examined::Passed = first else {
         return first;
     };
-    check_chains(rows, loops, 1, states(left), states(right))
+    check_chains(rows, chains2, 1, states(left), states(right))
 }

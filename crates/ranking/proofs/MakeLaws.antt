@@ -33,7 +33,7 @@ use Rattle.obligations.specs.Judging.{accepted, refusedWith}
 use Rattle.examination.specs.declared.Starts.{Starts}
 use Rattle.examination.specs.Examine.{examined}
 use Rattle.examination.specs.Walk.{examinedBy}
-use Rattle.examination.proofs.ExamineLaws.{Refused, by-starts, by-check, by-left-chain, by-right-chain, examined-refused, check-code}
+use Rattle.examination.proofs.RefusalLaws.{Refused, by-starts, by-check, by-left-chain, by-right-chain, examined-refused, check-code}
 use Rattle.examination.proofs.BytesLaws.{leftDistances, rightDistances, leftChains, rightChains, examination-is}
 use Rattle.ranking.specs.Make.{DrawingRead, fileFor, madeAnswer, outputAfter}
 use Rattle.ranking.proofs.FileMadeLaws.{Measured, file-made}
@@ -131,7 +131,7 @@ module _ (left right drawing : List ℕ) (read : DrawingRead left right drawing)
 -- ---- what the answer is, and what becomes of the output
 
 -- a refusal's code is not 0
-refused-code : (v : View) (start start′ : ℕ) (a : Answer) → examined v start start′ ≡ refusedWith a → a .code ≡ 0 → ⊥
+pub refused-code : (v : View) (start start′ : ℕ) (a : Answer) → examined v start start′ ≡ refusedWith a → a .code ≡ 0 → ⊥
 refused-code v start start′ a e z = go (examined-refused v start start′ a e)
   where
     go : Refused v start start′ a → ⊥

@@ -39,7 +39,7 @@ returns c =
     let a = c .before .before .before .before .before .before .before .before .before .before .before .before .args in
     let l = c .before .before .before .before .loop in
     let g = c .enum-told2 .given .1 in
-    g ∙ rows-stop (now (a .left)) (now (a .right)) (now (a .rows)) (now (a .columns)) (now (a .distances)) (now (a .others)) (l .inv .0) (l .inv .2) (c .before .before .before .loop-test .taken) (sym (c .before .before .check-row .ensures) ∙ g)
+    g ∙ rows-stop (now (a .left)) (now (a .right)) (now (a .rows)) (now (a .columns)) (now (a .distances)) (now (a .distances2)) (l .inv .0) (l .inv .2) (c .before .before .before .loop-test .taken) (sym (c .before .before .check-row .ensures) ∙ g)
 
 add-s : tie.Need-add-s Inv-loop μ-loop
 add-s c = search needs
@@ -51,13 +51,13 @@ loop-again : tie.Need-loop-again Inv-loop μ-loop
 loop-again c =
     let a = c .before .before .before .before .before .before .before .before .before .before .before .before .args in
     let l = c .before .before .before .before .loop in
-    (below-more (λ (i : ℕ). rowAt (now (a .left)) (now (a .right)) (now (a .rows)) (now (a .columns)) (now (a .distances)) (now (a .others)) i ≡ accepted) (l .s) (l .inv .0) (was-accepted _ (sym (c .before .before .check-row .ensures) ∙ c .enum-told .given .1)), omega arith, l .inv .2, l .inv .3)
+    (below-more (λ (i : ℕ). rowAt (now (a .left)) (now (a .right)) (now (a .rows)) (now (a .columns)) (now (a .distances)) (now (a .distances2)) i ≡ accepted) (l .s) (l .inv .0) (was-accepted _ (sym (c .before .before .check-row .ensures) ∙ c .enum-told .given .1)), omega arith, l .inv .2, l .inv .3)
 
 returns-2 : tie.Need-returns-2 Inv-loop μ-loop
 returns-2 c =
     let a = c .before .before .before .before .before .before .before .before .before .args in
     let l = c .before .loop in
-    rows-pass (now (a .left)) (now (a .right)) (now (a .rows)) (now (a .columns)) (now (a .distances)) (now (a .others)) (l .inv .0) (l .inv .2) (c .loop-test .left)
+    rows-pass (now (a .left)) (now (a .right)) (now (a .rows)) (now (a .columns)) (now (a .distances)) (now (a .distances2)) (l .inv .0) (l .inv .2) (c .loop-test .left)
 
 pub check-pairs-spec : {M : Type 1} → statement M
 check-pairs-spec =

@@ -35,7 +35,7 @@ first-requires c κs = search needs
 loop-holds : tie.Need-loop-holds Inv-loop μ-loop
 loop-holds c =
     let a = c .before .before .before .before .before .before .before .before .before .before .args in
-    (word-start (pairAt (now (a .left)) (now (a .right)) (now (a .rows)) (now (a .columns)) (now (a .distances)) (now (a .others)) (a .s)) (getD (now (a .rows)) (a .s) 0) (c .before .word .ensures .0) (c .before .word .ensures .1) (c .first .ensures), c .before .before .limit .ensures ∙ ap (λ (k : ℕ). min k 64) (c .before .before .before .states .ensures .0))
+    (word-start (pairAt (now (a .left)) (now (a .right)) (now (a .rows)) (now (a .columns)) (now (a .distances)) (now (a .distances2)) (a .s)) (getD (now (a .rows)) (a .s) 0) (c .before .word .ensures .0) (c .before .word .ensures .1) (c .first .ensures), c .before .before .limit .ensures ∙ ap (λ (k : ℕ). min k 64) (c .before .before .before .states .ensures .0))
 
 check-pair-requires : tie.Need-check-pair-requires Inv-loop μ-loop
 check-pair-requires c κs = (c .before .before .before .before .before .before .before .before .before .before .before .before .pre, omega (arith, c .before .loop .inv .1))
@@ -51,7 +51,7 @@ returns c =
     let a = c .before .before .before .before .before .before .before .before .before .before .before .before .before .before .before .args in
     let l = c .before .before .before .before .loop in
     let g = c .enum-told2 .given .1 in
-    g ∙ row-stops (now (a .left)) (now (a .right)) (now (a .rows)) (now (a .columns)) (now (a .distances)) (now (a .others)) (a .s) (l .inv .0) (l .inv .1) (c .before .before .before .loop-test .taken) (sym (c .before .before .check-pair .ensures) ∙ g)
+    g ∙ row-stops (now (a .left)) (now (a .right)) (now (a .rows)) (now (a .columns)) (now (a .distances)) (now (a .distances2)) (a .s) (l .inv .0) (l .inv .1) (c .before .before .before .loop-test .taken) (sym (c .before .before .check-pair .ensures) ∙ g)
 
 remove-requires : tie.Need-remove-requires Inv-loop μ-loop
 remove-requires c κs = search needs
@@ -63,7 +63,7 @@ loop-less : tie.Need-loop-less Inv-loop μ-loop
 loop-less c =
     let a = c .before .before .before .before .before .before .before .before .before .before .before .before .before .before .before .before .before .args in
     let l = c .before .before .before .before .before .before .loop in
-    let n = next-greater (pairAt (now (a .left)) (now (a .right)) (now (a .rows)) (now (a .columns)) (now (a .distances)) (now (a .others)) (a .s)) (getD (now (a .rows)) (a .s) 0) (l .inv .0) (omega (arith, l .inv .1)) in
+    let n = next-greater (pairAt (now (a .left)) (now (a .right)) (now (a .rows)) (now (a .columns)) (now (a .distances)) (now (a .distances2)) (a .s)) (getD (now (a .rows)) (a .s) 0) (l .inv .0) (omega (arith, l .inv .1)) in
     let e = c .first2 .ensures ∙ ap firstBit (c .before .remove .ensures) in
     omega (arith, l .inv .1)
 
@@ -71,13 +71,13 @@ loop-again : tie.Need-loop-again Inv-loop μ-loop
 loop-again c =
     let a = c .before .before .before .before .before .before .before .before .before .before .before .before .before .before .before .before .before .args in
     let l = c .before .before .before .before .before .before .loop in
-    (word-next (pairAt (now (a .left)) (now (a .right)) (now (a .rows)) (now (a .columns)) (now (a .distances)) (now (a .others)) (a .s)) (getD (now (a .rows)) (a .s) 0) (l .inv .0) (omega (arith, l .inv .1)) (was-accepted _ (sym (c .before .before .before .before .check-pair .ensures) ∙ c .before .before .enum-told .given .1)) (c .before .remove .ensures) (c .first2 .ensures), l .inv .1)
+    (word-next (pairAt (now (a .left)) (now (a .right)) (now (a .rows)) (now (a .columns)) (now (a .distances)) (now (a .distances2)) (a .s)) (getD (now (a .rows)) (a .s) 0) (l .inv .0) (omega (arith, l .inv .1)) (was-accepted _ (sym (c .before .before .before .before .check-pair .ensures) ∙ c .before .before .enum-told .given .1)) (c .before .remove .ensures) (c .first2 .ensures), l .inv .1)
 
 returns-2 : tie.Need-returns-2 Inv-loop μ-loop
 returns-2 c =
     let a = c .before .before .before .before .before .before .before .before .before .before .before .before .args in
     let l = c .before .loop in
-    row-passes (now (a .left)) (now (a .right)) (now (a .rows)) (now (a .columns)) (now (a .distances)) (now (a .others)) (a .s) (l .inv .0) (l .inv .1) (c .loop-test .left) (rw (c .before .before .before .word .ensures .0) at (c .before .before .before .word .ensures .1))
+    row-passes (now (a .left)) (now (a .right)) (now (a .rows)) (now (a .columns)) (now (a .distances)) (now (a .distances2)) (a .s) (l .inv .0) (l .inv .1) (c .loop-test .left) (rw (c .before .before .before .word .ensures .0) at (c .before .before .before .word .ensures .1))
 
 pub check-row-spec : {M : Type 1} → statement M
 check-row-spec =

@@ -14,7 +14,7 @@ has-requires : tie.Need-has-requires
 has-requires c κs = search needs
 
 returns : tie.Need-returns
-returns c = let a = c .before .before .before .before .before .before .before .before .before .before .before .args in starts-unrelated (now (a .left)) (now (a .right)) (now (a .rows)) (now (a .columns)) (now (a .distances)) (now (a .others)) (now (a .chains)) (now (a .loops)) (a .starts) (c .before .before .word .ensures .0) (sym (c .before .has .ensures) ∙ not-true _ (c .if1 .taken))
+returns c = let a = c .before .before .before .before .before .before .before .before .before .before .before .args in starts-unrelated (now (a .left)) (now (a .right)) (now (a .rows)) (now (a .columns)) (now (a .distances)) (now (a .distances2)) (now (a .chains)) (now (a .chains2)) (a .starts) (c .before .before .word .ensures .0) (sym (c .before .has .ensures) ∙ not-true _ (c .if1 .taken))
 
 check-pairs-requires : tie.Need-check-pairs-requires
 check-pairs-requires c κs = search needs
@@ -29,7 +29,7 @@ returns-2 : tie.Need-returns-2
 returns-2 c =
     let a = c .before .before .before .before .before .before .before .before .before .before .before .before .before .before .args in
     let g = c .enum-told2 .given .1 in
-    g ∙ pairs-refused (now (a .left)) (now (a .right)) (now (a .rows)) (now (a .columns)) (now (a .distances)) (now (a .others)) (now (a .chains)) (now (a .loops)) (a .starts) (c .before .before .before .before .before .word .ensures .0) (sym (c .before .before .before .before .has .ensures) ∙ not-false _ (c .before .before .before .if1 .left)) (sym (c .before .before .check-pairs .ensures) ∙ g)
+    g ∙ pairs-refused (now (a .left)) (now (a .right)) (now (a .rows)) (now (a .columns)) (now (a .distances)) (now (a .distances2)) (now (a .chains)) (now (a .chains2)) (a .starts) (c .before .before .before .before .before .word .ensures .0) (sym (c .before .before .before .before .has .ensures) ∙ not-false _ (c .before .before .before .if1 .left)) (sym (c .before .before .check-pairs .ensures) ∙ g)
 
 states-requires : tie.Need-states-requires
 states-requires c κs = search needs
@@ -50,7 +50,7 @@ returns-3 : tie.Need-returns-3
 returns-3 c =
     let a = c .before .before .before .before .before .before .before .before .before .before .before .before .before .before .before .before .before .before .before .args in
     let g = c .enum-told4 .given .1 in
-    g ∙ left-chains-refused (now (a .left)) (now (a .right)) (now (a .rows)) (now (a .columns)) (now (a .distances)) (now (a .others)) (now (a .chains)) (now (a .loops)) (a .starts) (c .before .before .before .before .before .before .before .before .before .before .word .ensures .0) (sym (c .before .before .before .before .before .before .before .before .before .has .ensures) ∙ not-false _ (c .before .before .before .before .before .before .before .before .if1 .left)) (sym (c .before .before .before .before .before .before .before .check-pairs .ensures) ∙ c .before .before .before .before .before .enum-told .given .1)
+    g ∙ left-chains-refused (now (a .left)) (now (a .right)) (now (a .rows)) (now (a .columns)) (now (a .distances)) (now (a .distances2)) (now (a .chains)) (now (a .chains2)) (a .starts) (c .before .before .before .before .before .before .before .before .before .before .word .ensures .0) (sym (c .before .before .before .before .before .before .before .before .before .has .ensures) ∙ not-false _ (c .before .before .before .before .before .before .before .before .if1 .left)) (sym (c .before .before .before .before .before .before .before .check-pairs .ensures) ∙ c .before .before .before .before .before .enum-told .given .1)
     (sym (chains-are 0 (now (a .columns)) (now (a .chains)) (c .before .before .before .before .states .ensures .0) (c .before .before .before .states2 .ensures .0)) ∙ sym (c .before .before .check-chains .ensures) ∙ g)
 
 states-requires-3 : tie.Need-states-requires-3
@@ -65,8 +65,8 @@ check-chains-requires-2 c κs = search needs
 returns-4 : tie.Need-returns-4
 returns-4 c =
     let a = c .before .before .before .before .before .before .before .before .before .before .before .before .before .before .before .before .before .before .before .before .before .before .args in
-    c .check-chains2 .ensures ∙ chains-are 1 (now (a .rows)) (now (a .loops)) (c .before .before .states3 .ensures .0) (c .before .states4 .ensures .0)
-    ∙ right-chains-decide (now (a .left)) (now (a .right)) (now (a .rows)) (now (a .columns)) (now (a .distances)) (now (a .others)) (now (a .chains)) (now (a .loops)) (a .starts) (c .before .before .before .before .before .before .before .before .before .before .before .before .before .word .ensures .0) (sym (c .before .before .before .before .before .before .before .before .before .before .before .before .has .ensures) ∙ not-false _ (c .before .before .before .before .before .before .before .before .before .before .before .if1 .left)) (sym (c .before .before .before .before .before .before .before .before .before .before .check-pairs .ensures) ∙ c .before .before .before .before .before .before .before .before .enum-told .given .1)
+    c .check-chains2 .ensures ∙ chains-are 1 (now (a .rows)) (now (a .chains2)) (c .before .before .states3 .ensures .0) (c .before .states4 .ensures .0)
+    ∙ right-chains-decide (now (a .left)) (now (a .right)) (now (a .rows)) (now (a .columns)) (now (a .distances)) (now (a .distances2)) (now (a .chains)) (now (a .chains2)) (a .starts) (c .before .before .before .before .before .before .before .before .before .before .before .before .before .word .ensures .0) (sym (c .before .before .before .before .before .before .before .before .before .before .before .before .has .ensures) ∙ not-false _ (c .before .before .before .before .before .before .before .before .before .before .before .if1 .left)) (sym (c .before .before .before .before .before .before .before .before .before .before .check-pairs .ensures) ∙ c .before .before .before .before .before .before .before .before .enum-told .given .1)
     (sym (chains-are 0 (now (a .columns)) (now (a .chains)) (c .before .before .before .before .before .before .before .states .ensures .0) (c .before .before .before .before .before .before .states2 .ensures .0)) ∙ sym (c .before .before .before .before .before .check-chains .ensures) ∙ c .before .before .before .enum-told3 .given .1)
 
 pub examine-spec : {M : Type 1} → statement M

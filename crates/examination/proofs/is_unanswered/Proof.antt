@@ -5,16 +5,11 @@ use borrow.Author.Needs.{needs}
 use Rattle.examination.proofs.is_unanswered.Statement.{statement}
 use Rattle.examination.proofs.is_unanswered.Tie as tie
 
-steps-requires : tie.Need-steps-requires
-steps-requires c κs = search needs
-
 from-requires : tie.Need-from-requires
 from-requires c κs = search needs
 
 returns : tie.Need-returns
-returns c =
-    let a = c .before .before .before .before .before .before .args in
-    step-elsewhere (now (a .table)) (now (a .words)) (now (a .distances)) (a .n) (a .s) (a .t) (a .j) (c .before .before .steps .ensures) (c .before .from .ensures .0) (c .if1 .taken)
+returns c = let a = c .before .before .before .before .before .args in step-elsewhere (now (a .list)) (now (a .words)) (now (a .distances)) (a .n) (a .s) (a .t) (a .j) (c .before .from .ensures .0) (c .if1 .taken)
 
 mul-byte : tie.Need-mul-byte
 mul-byte c = search needs
@@ -26,9 +21,7 @@ byte-requires : tie.Need-byte-requires
 byte-requires c κs = search needs
 
 returns-2 : tie.Need-returns-2
-returns-2 c =
-    let a = c .before .before .before .before .before .before .before .before .args in
-    step-near (now (a .table)) (now (a .words)) (now (a .distances)) (a .n) (a .s) (a .t) (a .j) (c .before .byte .ensures .0) (c .if2 .taken)
+returns-2 c = let a = c .before .before .before .before .before .before .before .args in step-near (now (a .list)) (now (a .words)) (now (a .distances)) (a .n) (a .s) (a .t) (a .j) (c .before .byte .ensures .0) (c .if2 .taken)
 
 to-requires : tie.Need-to-requires
 to-requires c κs = search needs
@@ -41,15 +34,13 @@ has-requires c κs = search needs
 
 returns-3 : tie.Need-returns-3
 returns-3 c =
-    let a = c .before .before .before .before .before .before .before .before .before .before .before .args in
-    step-entering (now (a .table)) (now (a .words)) (now (a .distances)) (a .n) (a .s) (a .t) (a .j) (c .before .before .before .before .before .before .before .steps .ensures) (c .before .before .before .before .before .before .from .ensures .0) (c .before .before .before .before .before .if1 .left) (c .before .before .before .before .byte .ensures .0) (c .before .before .before .if2 .left)
-    (c .before .before .to .ensures .0) (c .before .word .ensures .0) (c .has .ensures)
+    let a = c .before .before .before .before .before .before .before .before .before .before .args in
+    step-entering (now (a .list)) (now (a .words)) (now (a .distances)) (a .n) (a .s) (a .t) (a .j) (c .before .before .before .before .before .before .from .ensures .0) (c .before .before .before .before .before .if1 .left) (c .before .before .before .before .byte .ensures .0) (c .before .before .before .if2 .left) (c .before .before .to .ensures .0) (c .before .word .ensures .0) (c .has .ensures)
 
 pub is-unanswered-spec : {M : Type 1} → statement M
 is-unanswered-spec =
     tie.close
     (tie.spec
-    steps-requires
     from-requires
     returns
     mul-byte
