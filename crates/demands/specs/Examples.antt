@@ -1,6 +1,7 @@
 -- The bench examples of document 01, as bytes.
 use Prim.Native.Nat.{ℕ}
 use mathlib.Core.List.{List, [], _∷_, _++_}
+use lib.ListN.{replicate}
 use Rattle.tables.specs.declared.Answer.{Answer}
 
 -- Six numbers.
@@ -37,3 +38,7 @@ looping = 0x54 ∷ 0x50 ∷ 0x54 ∷ 0 ∷ 1 ∷ 1 ∷ 0 ∷ 0 ∷ 1 ∷ 0 ∷ 0
 
 abbrev pub stillCertificate : List ℕ
 stillCertificate = (0x54 ∷ 0x50 ∷ 0x43 ∷ 0 ∷ 1 ∷ 1 ∷ 1 ∷ 0 ∷ 0 ∷ 0 ∷ 0 ∷ []) ++ low 1 ++ (0 ∷ 0 ∷ [])
+
+-- n zeros.
+abbrev pub zeros : ℕ → List ℕ
+zeros n = replicate n 0
