@@ -1,10 +1,16 @@
-// Runs the readers on the cases of standard input, the edges of document 01, and prints what they say, a line each: the edge in words, then six
-// numbers. A refusal prints its six numbers. A table that is read prints 0 0, its states, its steps, its version and its initial state; a certificate
-// or a relation that is read prints 0 0 and its four sizes.
+// Runs the readers, the judge and the maker on the cases of standard input, the edges and examples of document 01, and prints what they say, a line
+// each: the case in words, then six numbers. A refusal prints its six numbers, as do the judge and the maker. A table that is read prints 0 0, its
+// states, its steps, its version and its initial state; a certificate or a relation that is read prints 0 0 and its four sizes.
 //
-// A case is a line: the edge in words and a colon, a letter that says what is shown, and up to three files as hexadecimal digits. The first two are
-// the tables, of which a certificate, a relation and the offsets need the headers alone. The letters: T a table, P a pair of tables, C a certificate,
-// R a relation, O the offsets of a certificate, L the labels of a table, S its first two steps, E two steps past its end.
+// A case is a line: what it is in words and a colon, a letter that says what is shown, and up to three files as hexadecimal digits. The first two are
+// the tables, of which a certificate, a relation and the offsets need the headers alone; the third is a certificate or a relation. The letters:
+// T a table, P a pair of tables, C a certificate, R a relation, O the offsets of a certificate, L the labels of a table, S its first two steps,
+// E two steps past its end;
+// J the judge's answer to a certificate;
+// M the maker's answer, where the output is as long as the certificate; N the same, where it is a byte shorter;
+// B what the judge says of the certificate that the maker writes, or the maker's refusal;
+// W not six numbers, but an output of one byte more than the certificate, as the maker leaves it, in hexadecimal digits.
+// Before the maker runs, each byte of the output is a5.
 use certificates::CertificateRead;
 use certificates::RelationRead;
 use certificates::Sizes;
@@ -51,6 +57,24 @@ fn print_sizes(sizes: Sizes) {
         sizes.m1 as usize,
         sizes.m2 as usize,
     );
+}
+
+// A value below 16 as a hexadecimal digit.
+fn print_digit(value: u8) {
+    let at = value as usize;
+    io::write_all(1, part_of(b"0123456789abcdef", at, at + 1));
+}
+
+// The bytes as hexadecimal digits, on a line.
+fn print_bytes(bytes: &[u8]) {
+    let mut i: usize = 0;
+    while i < bytes.len() {
+        let value = bytes[i];
+        print_digit(value / 16);
+        print_digit(value % 16);
+        i += 1;
+    }
+    io::write_all(1, b"\n");
 }
 
 // ---- what the readers say
@@ -129,6 +153,70 @@ fn show_steps(table: &[u8], j: usize, k: usize) {
     print_good(from, to, next_from, next_to);
 }
 
+// ---- what the judge says
+
+fn show_judged(left: &[u8], right: &[u8], certificate: &[u8]) {
+    print_answer(checker::judge(left, right, certificate));
+}
+
+// ---- what the maker says and writes
+
+// The length of a certificate, and 1023 for a longer one: an output has 1024 bytes.
+fn room(left: &[u8], right: &[u8]) -> usize
+    ensures { λ r. ⌜ (0 < r) × (r < 1024) ⌝ }
+{
+    let sizes = Sizes::of(left, right);
+    let length = sizes.length();
+    if length < 1024 {
+        return length;
+    }
+    1023
+}
+
+// Makes in the first n bytes of the output.
+fn make_in(left: &[u8], right: &[u8], relation: &[u8], output: &mut [u8], n: usize) -> Answer
+    requires { ⌜ n ≤ length (now output) ⌝ }
+{
+    let part = &mut output[0..n];
+    ranking::make(left, right, relation, part)
+}
+
+// The answer, where the output is as long as the certificate.
+fn show_made(left: &[u8], right: &[u8], relation: &[u8]) {
+    let n = room(left, right);
+    let mut output = [0xa5u8; 1024];
+    print_answer(make_in(left, right, relation, &mut output, n));
+}
+
+// The answer, where the output is one byte shorter.
+fn show_short(left: &[u8], right: &[u8], relation: &[u8]) {
+    let n = room(left, right) - 1;
+    let mut output = [0xa5u8; 1024];
+    print_answer(make_in(left, right, relation, &mut output, n));
+}
+
+// What the judge says of the certificate written, or the maker's refusal.
+fn show_made_judged(left: &[u8], right: &[u8], relation: &[u8]) {
+    let n = room(left, right);
+    let mut output = [0xa5u8; 1024];
+    let made = make_in(left, right, relation, &mut output, n);
+    if made.code != 0 {
+        print_answer(made);
+        return;
+    }
+    show_judged(left, right, part_of(&output, 0, n));
+}
+
+// The output of one byte more than the certificate, as the maker leaves it.
+fn show_written(left: &[u8], right: &[u8], relation: &[u8]) {
+    let n = room(left, right) + 1;
+    let mut output = [0xa5u8; 1024];
+    make_in(left, right, relation, &mut output, n);
+    print_bytes(part_of(&output, 0, n));
+}
+
+// ---- the letters
+
 // Shows what the letter asks for.
 fn show(letter: u8, left: &[u8], right: &[u8], file: &[u8]) {
     match letter {
@@ -139,6 +227,11 @@ fn show(letter: u8, left: &[u8], right: &[u8], file: &[u8]) {
         b'O' => show_layout(Sizes::of(left, right)),
         b'L' => show_labels(left),
         b'S' => show_steps(left, 0, 1),
+        b'J' => show_judged(left, right, file),
+        b'M' => show_made(left, right, file),
+        b'N' => show_short(left, right, file),
+        b'B' => show_made_judged(left, right, file),
+        b'W' => show_written(left, right, file),
         _ => show_steps(left, 2, 18446744073709551615),
     }
 }
@@ -220,7 +313,7 @@ fn show_files(letter: u8, files: &[u8]) {
     );
 }
 
-// Prints the edge and shows the files of a case.
+// Prints the words and shows the files of a case.
 fn show_case(line: &[u8]) {
     io::write_all(1, before(line, b':'));
     io::write_all(1, b": ");
