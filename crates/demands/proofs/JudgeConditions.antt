@@ -61,11 +61,11 @@ module _ (s : List ℕ) (file : ℕ) where
   doubled-named (Doubled j) e k = doubled-first s e
 
 -- Nothing but a is named, and a only above a bound.
-record Unnamed (bound : ℕ) (a : Answer) : Type 0 where
-  low : a .code ≤ bound → a .a ≡ 0
-  others : (a .b ≡ 0) × (a .c ≡ 0) × (a .d ≡ 0)
+pub record Unnamed (bound : ℕ) (a : Answer) : Type 0 where
+  pub low : a .code ≤ bound → a .a ≡ 0
+  pub others : (a .b ≡ 0) × (a .c ≡ 0) × (a .d ≡ 0)
 
-table-unnamed : (r : TableRefusal) (file : ℕ) → Unnamed 7 (tableAnswer r file)
+pub table-unnamed : (r : TableRefusal) (file : ℕ) → Unnamed 7 (tableAnswer r file)
 table-unnamed Short file = record { low = λ l. refl; others = (refl, refl, refl) }
 table-unnamed Magic file = record { low = λ l. refl; others = (refl, refl, refl) }
 table-unnamed Version file = record { low = λ l. refl; others = (refl, refl, refl) }

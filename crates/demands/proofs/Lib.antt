@@ -7,6 +7,8 @@ pub mod JudgeExact
 pub mod AgreeLaws
 pub mod RelationsExact
 pub mod RankWords
+pub mod MakerChecks
+pub mod MakerConditions
 pub mod MakerExact
 pub mod StarredExamples
 pub mod UnrelatedRanks

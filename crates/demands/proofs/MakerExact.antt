@@ -42,7 +42,7 @@ use Rattle.demands.specs.Ranks.{MatchRanks, StutterRanks}
 use Rattle.demands.specs.Demand2.{HasRows, Drawn}
 use Rattle.demands.specs.Demand3.{DefinedFile, MakerExact}
 use Rattle.demands.proofs.RankWords.{match-ranks, stutter-ranks, success-endless, match-agree, stutter-agree}
-use Rattle.demands.proofs.RelationsExact.{drawn-formed, drawn-length, drawn-few, accepted-file, file-accepted}
+use Rattle.demands.proofs.RelationsExact.{drawn-formed, drawn-read, drawn-length, drawn-few, accepted-file, file-accepted}
 
 module _ (left right drawing output : List ℕ) (drawn : Drawn left right drawing) (room : certificateLength (sizesOf left right) ≤ length output) where
   v : View
@@ -54,15 +54,7 @@ module _ (left right drawing output : List ℕ) (drawn : Drawn left right drawin
   -- ---- all is read, so the answer is that of the examination
 
   read : DrawingRead left right drawing
-  read =
-      record {
-        head = headOf left;
-        head′ = headOf right;
-        sizes = sizesOf left right;
-        left-good = none-good left (drawn .left-formed);
-        right-good = none-good right (drawn .right-formed);
-        drawing-good = relation-none-good (sizesOf left right) drawing (drawn .relation-formed);
-      }
+  read = drawn-read left right drawing drawn
 
   examined-iff : (examined (viewOf left right drawing) (startOf left) (startOf right) ≡ accepted) ↔ T (succeeds (viewOf left right drawing))
   unfolding viewOf

@@ -13,7 +13,7 @@ use Rattle.bisimulation.specs.Systems.{View, Ranks, Bytes, WellFormed, flip, sw
 use Rattle.bisimulation.specs.Judge.{accepts}
 use Rattle.bisimulation.specs.Namjoshi.{InitialStatesRelated, SomeRank}
 use Rattle.bisimulation.proofs.NamjoshiTheorems.{accepted-iff-bisimulation}
-use Rattle.tables.specs.Table.{statesOf, stepsOf}
+use Rattle.tables.specs.Table.{statesOf, stepsOf, headOf}
 use Rattle.tables.specs.Model.{systemOf}
 use Rattle.tables.proofs.ConditionLaws.{none-good}
 use Rattle.tables.proofs.TableLaws.{table-ok}
@@ -25,6 +25,7 @@ use Rattle.certificates.proofs.CertificateLaws.{certificate-ok, relation-ok, ro
 use Rattle.files.specs.File.{certificateFile}
 use Rattle.files.proofs.FileLaws.{FitsHeader, RanksAgree, file-length, file-rows, file-ranks, file-good, file-bytes}
 use Rattle.checker.specs.Judge.{judgeAnswer}
+use Rattle.ranking.specs.Make.{DrawingRead}
 use Rattle.demands.specs.Judged.{view, ranks, AllWellFormed}
 use Rattle.demands.specs.Demand2.{HasRows, Drawn}
 use Rattle.demands.proofs.AgreeLaws.{AgreeInside, accepts-agree}
@@ -42,6 +43,17 @@ module _ (left right relation : List ℕ) (drawn : Drawn left right relation) wh
   drawn-formed =
       view-formed left right relation (none-good left (drawn .left-formed)) (none-good right (drawn .right-formed)) (drawn .relation-bytes)
       (relation-ok z relation (relation-none-good z relation (drawn .relation-formed)) .1 .narrow)
+
+  pub drawn-read : DrawingRead left right relation
+  drawn-read =
+      record {
+        head = headOf left;
+        head′ = headOf right;
+        sizes = sizesOf left right;
+        left-good = none-good left (drawn .left-formed);
+        right-good = none-good right (drawn .right-formed);
+        drawing-good = relation-none-good (sizesOf left right) relation (drawn .relation-formed);
+      }
 
   pub drawn-length : length relation ≡ 8 * z .n1
   drawn-length = relation-ok z relation (relation-none-good z relation (drawn .relation-formed)) .1 .long

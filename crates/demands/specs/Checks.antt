@@ -28,6 +28,15 @@ abbrev pub Unmet : View → Ranks → ℕ → ℕ → ℕ → ℕ → ℕ → An
 Unmet v r j t side left right a =
     (¬ Meets v r j t) × ((Apart v j t × (a ≡ stepAnswer 18 side left right j)) ⊎ ((¬ Apart v j t) × (a ≡ stepAnswer 19 side left right j)))
 
+-- Of the checks in their order, here is the first that fails, and these are its numbers.
+pub record FirstFailing (Pass : Check → Type 0) (Fail : Check → Answer → Type 0) (cs : List Check) (a : Answer) : Type 0 where
+  pub before : List Check
+  pub here : Check
+  pub after : List Check
+  pub order : cs ≡ before ++ here ∷ after
+  pub passed : All Pass before
+  pub failed : Fail here a
+
 module _ (v : View) (r : Ranks) where
   -- The labels are equal; the obligation is met.
   abbrev pub Passes : Check → Type 0
@@ -41,14 +50,8 @@ module _ (v : View) (r : Ranks) where
   Fails (leftStep s t j) a = Unmet v r j t 0 s t a
   Fails (rightStep s t j) a = Unmet (flip v) (swap r) j s 1 s t a
 
-  -- Of the checks in their order, here is the first that fails.
-  pub record FirstFailure (cs : List Check) (a : Answer) : Type 0 where
-    pub before : List Check
-    pub here : Check
-    pub after : List Check
-    pub order : cs ≡ before ++ here ∷ after
-    pub passed : All Passes before
-    pub failed : Fails here a
+  abbrev pub FirstFailure : List Check → Answer → Type 0
+  FirstFailure = FirstFailing Passes Fails
 
   -- The obligation is met by 2a; by 2b and not by 2a; by 2c and by neither.
   abbrev pub ByAnswer : Check → Type 0

@@ -65,7 +65,7 @@ test-refused : (b : Bool) {x y : Answer} → cond b (refusedWith x) accepted ≡
 test-refused true e = (tt, cc e)
 test-refused false e = absurd (accepted-not-refused e)
 
-test-accepted : (b : Bool) (x : Answer) → cond b (refusedWith x) accepted ≡ accepted → T b → ⊥
+pub test-accepted : (b : Bool) (x : Answer) → cond b (refusedWith x) accepted ≡ accepted → T b → ⊥
 test-accepted true x e h = accepted-not-refused (sym e)
 test-accepted false x e h = h
 

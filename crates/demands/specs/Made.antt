@@ -1,0 +1,137 @@
+-- The maker's answer by conditions: which of document 01's causes apply, for any two tables, relation and output.
+use Prim.Native.Nat.{ℕ, _≤_, _<_}
+use mathlib.Core.Path.{_≡_}
+use mathlib.Core.Logic.{_↔_, _⊎_}
+use mathlib.Core.List.{List}
+use lib.Dec.{T}
+use lib.ListN.{length, getD}
+use Rattle.lists.specs.Lists.{All}
+use Rattle.lists.specs.Below.{IsFirstBelow}
+use Rattle.bisimulation.specs.Systems.{View, flip}
+use Rattle.bisimulation.specs.Runs.{MatchingRun, StutteringChain}
+use Rattle.tables.specs.Table.{statesOf, stepsOf, startOf}
+use Rattle.tables.specs.Answers.{refusal}
+use Rattle.tables.specs.Conditions.{FirstApplies, NoneApplies, tableCauses, EndOutside, EqualsEarlier}
+use Rattle.tables.specs.declared.Answer.{Answer}
+use Rattle.certificates.specs.Layout.{sizesOf, certificateLength}
+use Rattle.certificates.specs.CertificateConditions.{relationCauses, relationNumbers, HasWideBit}
+use Rattle.certificates.specs.CertificateModel.{viewOf}
+use Rattle.obligations.specs.Judging.{Check, labelsOf, leftStep, rightStep, checks}
+use Rattle.demands.specs.Checks.{labelsAnswer, stepAnswer, FirstFailing}
+use Rattle.demands.specs.Demand2.{Drawn}
+
+-- ---- 17 and 22
+
+-- The own step j is matched at t: a matching run of whatever length exists.
+abbrev pub Matched : View → ℕ → ℕ → Type 0
+Matched v j t = (K : List ℕ) × MatchingRun v j t K
+
+-- u, t are related. Only silent steps count, where steps have keys.
+abbrev pub Stays : View → ℕ → ℕ → Type 0
+Stays v j t = T (v .own .silent j) × T (v .related (v .own .to j) t)
+
+-- An unmatched obligation with u, t unrelated, and its numbers.
+abbrev pub Lost : View → ℕ → ℕ → ℕ → ℕ → ℕ → Answer → Type 0
+Lost v j t side left right a = (¬ Matched v j t) × (¬ Stays v j t) × (a ≡ stepAnswer 22 side left right j)
+
+module _ (v : View) where
+  -- The maker finds nothing against the check.
+  abbrev pub Clears : Check → Type 0
+  Clears (labelsOf s t) = v .own .label s ≡ v .other .label t
+  Clears (leftStep s t j) = Matched v j t ⊎ Stays v j t
+  Clears (rightStep s t j) = Matched (flip v) j s ⊎ Stays (flip v) j s
+
+  -- The maker refuses at the check, with these numbers.
+  abbrev pub Refuses : Check → Answer → Type 0
+  Refuses (labelsOf s t) a = (¬ (v .own .label s ≡ v .other .label t)) × (a ≡ labelsAnswer s t)
+  Refuses (leftStep s t j) a = Lost v j t 0 s t a
+  Refuses (rightStep s t j) a = Lost (flip v) j s 1 s t a
+
+-- ---- 23
+
+-- A chain from c of steps unmatched at b, through states related to b, has as many steps as the side has states.
+abbrev pub LongChain : View → ℕ → ℕ → Type 0
+LongChain v b c = T (v .related c b) × ((J : List ℕ) × StutteringChain v b c J × (length J ≡ v .own .states))
+
+abbrev pub SomeLongChain : View → Type 0
+SomeLongChain v = (b : ℕ) × (c : ℕ) × (b < v .other .states) × (c < v .own .states) × LongChain v b c
+
+-- The smallest fixed state b with such a chain, then the smallest first state c of one.
+pub record FirstLongChain (v : View) (side : ℕ) (a : Answer) : Type 0 where
+  pub fixed : ℕ
+  pub first : ℕ
+  pub fixed< : fixed < v .other .states
+  pub first< : first < v .own .states
+  pub long : LongChain v fixed first
+  pub least-fixed : (b c : ℕ) → b < fixed → c < v .own .states → ¬ LongChain v b c
+  pub least-first : (c : ℕ) → c < first → ¬ LongChain v fixed c
+  pub numbers : a ≡ record { code = 23; file = 2; a = side; b = fixed; c = first; d = 0 }
+
+-- Left side first.
+abbrev pub NamesChain : View → Answer → Type 0
+NamesChain v a = FirstLongChain v 0 a ⊎ ((¬ SomeLongChain v) × FirstLongChain (flip v) 1 a)
+
+-- ---- all of it
+
+-- The starts are related.
+abbrev pub StartsDrawn : (left right drawing : List ℕ) → Type 0
+StartsDrawn left right drawing = T (viewOf left right drawing .related (startOf left) (startOf right))
+
+module _ (left right drawing output : List ℕ) where
+  -- None of 1 to 9, 20, 15 and 21 applies.
+  pub record Ready : Type 0 where
+    pub drawn : Drawn left right drawing
+    pub room : certificateLength (sizesOf left right) ≤ length output
+
+  -- Nor do 16, 17 and 22.
+  pub record Cleared : Type 0 where
+    pub ready : Ready
+    pub starts : StartsDrawn left right drawing
+    pub clears : All (Clears (viewOf left right drawing)) (checks (viewOf left right drawing))
+
+  -- Demand 1 for the maker: each number exactly where its condition holds and none earlier in the order does, whatever the bytes.
+  pub record MakesByConditions (answer : Answer) (after : List ℕ) : Type 0 where
+    -- 1 to 9 of the left table, then of the right
+    pub left-table : (k : ℕ) → FirstApplies (tableCauses left) k ↔ ((answer .code ≡ k) × (answer .file ≡ 0) × (0 < k))
+    pub right-table : (k : ℕ) → (NoneApplies (tableCauses left) × FirstApplies (tableCauses right) k) ↔ ((answer .code ≡ k) × (answer .file ≡ 1))
+    -- 20, then 15
+    pub relation : (k : ℕ)
+        → (NoneApplies (tableCauses left) × NoneApplies (tableCauses right) × ((i : ℕ) × FirstApplies (relationCauses (sizesOf left right) drawing) i × (getD relationNumbers i 0 ≡ k)))
+        ↔ ((answer .code ≡ k) × ((k ≡ 20) ⊎ (k ≡ 15)))
+    -- 21
+    pub short : (Drawn left right drawing × (length output < certificateLength (sizesOf left right))) ↔ (answer .code ≡ 21)
+    -- 16
+    pub starts : (Ready × (¬ StartsDrawn left right drawing)) ↔ (answer .code ≡ 16)
+    -- 17 and 22, in judging order
+    pub checked : (k : ℕ)
+        → (Ready × StartsDrawn left right drawing × ((x : Answer) × FirstFailing (Clears (viewOf left right drawing)) (Refuses (viewOf left right drawing)) (checks (viewOf left right drawing)) x × (x .code ≡ k)))
+        ↔ ((answer .code ≡ k) × ((k ≡ 17) ⊎ (k ≡ 22)))
+    -- 23
+    pub endless : (Cleared × (SomeLongChain (viewOf left right drawing) ⊎ SomeLongChain (flip (viewOf left right drawing)))) ↔ (answer .code ≡ 23)
+    -- success
+    pub succeeds : (Cleared × (¬ SomeLongChain (viewOf left right drawing)) × (¬ SomeLongChain (flip (viewOf left right drawing)))) ↔ (answer .code ≡ 0)
+    -- a refusal leaves the output untouched
+    pub untouched : ¬ (answer .code ≡ 0) → after ≡ output
+
+  -- What the six numbers name, and that unnamed fields are 0.
+  pub record MakerNamesFirst (answer : Answer) : Type 0 where
+    -- 8 and 9: the first such step
+    pub left-outside : answer .code ≡ 8 → answer .file ≡ 0 → IsFirstBelow (stepsOf left) (EndOutside left) (answer .a)
+    pub right-outside : answer .code ≡ 8 → answer .file ≡ 1 → IsFirstBelow (stepsOf right) (EndOutside right) (answer .a)
+    pub left-doubled : answer .code ≡ 9 → answer .file ≡ 0 → IsFirstBelow (stepsOf left) (EqualsEarlier left) (answer .a)
+    pub right-doubled : answer .code ≡ 9 → answer .file ≡ 1 → IsFirstBelow (stepsOf right) (EqualsEarlier right) (answer .a)
+    -- 15: the first such row
+    pub wide-row : answer .code ≡ 15 → IsFirstBelow (statesOf left) (HasWideBit drawing (statesOf right)) (answer .a)
+    -- 21: the length L
+    pub short-named : answer .code ≡ 21 → answer ≡ refusal 21 3 (certificateLength (sizesOf left right))
+    -- 16: the starts
+    pub starts-named : answer .code ≡ 16 → answer ≡ record { code = 16; file = 2; a = startOf left; b = startOf right; c = 0; d = 0 }
+    -- 17 and 22: the first such check, in judging order
+    pub check-named : (answer .code ≡ 17) ⊎ (answer .code ≡ 22) → FirstFailing (Clears (viewOf left right drawing)) (Refuses (viewOf left right drawing)) (checks (viewOf left right drawing)) answer
+    -- 23: the first such chain
+    pub chain-named : answer .code ≡ 23 → NamesChain (viewOf left right drawing) answer
+    -- success: the length L
+    pub made-named : answer .code ≡ 0 → answer ≡ refusal 0 0 (certificateLength (sizesOf left right))
+    -- unnamed fields are 0
+    pub a-unnamed : (answer .code ≤ 7) ⊎ (answer .code ≡ 20) → 0 < answer .code → answer .a ≡ 0
+    pub others-unnamed : (answer .code ≤ 15) ⊎ (answer .code ≡ 20) → (answer .b ≡ 0) × (answer .c ≡ 0) × (answer .d ≡ 0)
