@@ -31,7 +31,7 @@ use Rattle.obligations.proofs.JudgingLaws.{verdict-i, verdict-e}
 use Rattle.checker.specs.Judge.{pairsIn, verdictAnswer, judged, judgedBytes, judgeAnswer}
 use Rattle.checker.proofs.JudgeLaws.{left-answer, right-answer, certificate-answer}
 use Rattle.demands.specs.Checks.{Passes, FirstFailure}
-use Rattle.demands.specs.Judged.{view, ranks, AllWellFormed, StartsRelated, AnswersByConditions, NamesFirst}
+use Rattle.demands.specs.Judged.{view, ranks, AllWellFormed, StartsRelated, JudgeNumber, AnswersByConditions, NamesFirst}
 use Rattle.demands.proofs.CheckLaws.{goes-passes, passes-goes, all-map, refused-first-failure, first-failure-refused}
 use Rattle.demands.proofs.JudgeCases.{Numbers, table-numbers, certificate-numbers, failure-numbers, Case, by-left, by-right, by-certificate, by-starts, by-check, by-none, formed-answer, cases}
 
@@ -217,10 +217,19 @@ module _ (left right c : List ℕ) where
       go (by-check x w h s e) = absurd (let n = by-failure s e .least in omega arith)
       go (by-none w h s e) = (w, h, s, e)
 
+  number-of : Case left right c → JudgeNumber A
+  number-of (by-left r s e) = let n = by-table r 0 e in let f = n .of-file in inr (inl (n .least, n .most, omega arith))
+  number-of (by-right r g s e) = let n = by-table r 1 e in let f = n .of-file in inr (inl (n .least, n .most, omega arith))
+  number-of (by-certificate r g h s e) = let n = by-file r e in let m = n .most in inr (inr (n .least, omega arith, n .of-file))
+  number-of (by-starts w h e) = let n = code-of e in inr (inr (omega arith, omega arith, file-of e))
+  number-of (by-check x w h s e) = let n = by-failure s e in let l = n .least in inr (inr (omega arith, n .most, n .of-file))
+  number-of (by-none w h s e) = inl (code-of e, file-of e)
+
   -- the judge answers by the conditions alone
   pub judge-by-conditions : AnswersByConditions left right c (judgeAnswer left right c)
   judge-by-conditions =
       record {
+        one-number = number-of (cases left right c);
         left-table = λ k. (left-i, λ p. left-e k (p .0) (p .1) (p .2) (cases left right c));
         right-table = λ k. (λ p. right-i (p .0) (p .1), λ p. right-e k (p .0) (p .1) (cases left right c));
         certificate = λ k. (λ p. certificate-i (p .0) (p .1) (p .2 .1) (p .2 .2), λ p. certificate-e k (p .0) (p .1) (p .2) (cases left right c));

@@ -43,7 +43,7 @@ use Rattle.ranking.proofs.MakeAnswers.{left-answer, right-answer, relation-answ
 use Rattle.ranking.proofs.MakeLaws.{stopped-answer, passed-answer}
 use Rattle.demands.specs.Checks.{FirstFailing}
 use Rattle.demands.specs.Demand2.{Drawn}
-use Rattle.demands.specs.Made.{Clears, Refuses, SomeLongChain, FirstLongChain, NamesChain, Ready, StartsDrawn, Cleared, MakesByConditions, MakerNamesFirst}
+use Rattle.demands.specs.Made.{Clears, Refuses, SomeLongChain, FirstLongChain, NamesChain, MakerNumber, Ready, StartsDrawn, Cleared, MakesByConditions, MakerNamesFirst}
 use Rattle.demands.proofs.CheckLaws.{all-map}
 use Rattle.demands.proofs.JudgeCases.{Numbers, table-numbers}
 use Rattle.demands.proofs.JudgeConditions.{Unnamed, table-unnamed, judge-names-first}
@@ -342,10 +342,25 @@ module _ (left right drawing output : List ℕ) (bytes : AreBytes drawing) where
   others-e q (by-ready y (by-chain d n)) = absurd (let c = chain-numbers n .0 in let of-file = chain-numbers n .1 in ⊎-elim (λ i. omega arith) (λ i. omega arith) q)
   others-e q (by-ready y (by-none d n m e)) = subst (λ (a : Answer). (a .b ≡ 0) × (a .c ≡ 0) × (a .d ≡ 0)) (sym e) (refl, refl, refl)
 
+  number-of : Case → MakerNumber A
+  number-of (by-left r s e) = let n = by-table r 0 e in let f = n .of-file in inr (inl (n .least, n .most, omega arith))
+  number-of (by-right r g s e) = let n = by-table r 1 e in let f = n .of-file in inr (inl (n .least, n .most, omega arith))
+  number-of (by-relation r g h s e) =
+      let n = by-drawing r e in
+      ⊎-elim (λ k. inr (inr (inr (inl (k, n .of-file))))) (λ k. inr (inr (inl (omega arith, omega arith, n .of-file)))) (n .number)
+  number-of (by-room d l e) = inr (inr (inr (inr (inl (code-of e, file-of e)))))
+  number-of (by-ready y (by-starts h e)) = let k = code-of e in inr (inr (inl (omega arith, omega arith, file-of e)))
+  number-of (by-ready y (by-check h f)) =
+      let n = check-numbers y f in
+      ⊎-elim (λ k. inr (inr (inl (omega arith, omega arith, n .1)))) (λ k. inr (inr (inr (inr (inr (omega arith, omega arith, n .1)))))) (n .0)
+  number-of (by-ready y (by-chain d n)) = let p = chain-numbers n in let k = p .0 in inr (inr (inr (inr (inr (omega arith, omega arith, p .1)))))
+  number-of (by-ready y (by-none d n m e)) = inl (code-of e, file-of e)
+
   -- the maker answers by the conditions alone
   pub maker-by-conditions : MakesByConditions left right drawing output (makeAnswer left right drawing output) (makeOutput left right drawing output)
   maker-by-conditions =
       record {
+        one-number = number-of cases;
         left-table = λ k. (left-i, λ p. left-e k (p .0) (p .1) (p .2) cases);
         right-table = λ k. (λ p. right-i (p .0) (p .1), λ p. right-e k (p .0) (p .1) cases);
         relation = λ k. (λ p. relation-i (p .0) (p .1) (p .2 .1) (p .2 .2), λ p. relation-e k (p .0) (p .1) cases);

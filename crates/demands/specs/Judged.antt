@@ -57,8 +57,14 @@ pub record Accepted (left right c : List ℕ) (answer : Answer) : Type 0 where
   pub together : answer .b + (answer .c + answer .d) ≡ obligationsOf (view left right c)
   pub at-most : answer .b + (answer .c + answer .d) ≤ stepsOf left * statesOf right + stepsOf right * statesOf left
 
+-- The numbers that the judge has, and the file of each: 0; 1 to 9 of a table; 10 to 19 of the certificate.
+abbrev pub JudgeNumber : Answer → Type 0
+JudgeNumber a = ((a .code ≡ 0) × (a .file ≡ 0)) ⊎ ((1 ≤ a .code) × (a .code ≤ 9) × (a .file ≤ 1)) ⊎ ((10 ≤ a .code) × (a .code ≤ 19) × (a .file ≡ 2))
+
 -- Demand 1 for the judge: each number exactly where its condition holds and none earlier in the order does, whatever the bytes.
 pub record AnswersByConditions (left right c : List ℕ) (answer : Answer) : Type 0 where
+  -- it succeeds, or refuses with one of these numbers
+  pub one-number : JudgeNumber answer
   -- 1 to 9 of the left table, then of the right
   pub left-table : (k : ℕ) → FirstApplies (tableCauses left) k ↔ ((answer .code ≡ k) × (answer .file ≡ 0) × (0 < k))
   pub right-table : (k : ℕ) → (NoneApplies (tableCauses left) × FirstApplies (tableCauses right) k) ↔ ((answer .code ≡ k) × (answer .file ≡ 1))

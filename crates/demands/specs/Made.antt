@@ -73,6 +73,16 @@ NamesChain v a = FirstLongChain v 0 a ⊎ ((¬ SomeLongChain v) × FirstLongChai
 
 -- ---- all of it
 
+-- The numbers that the maker has, and the file of each: 0; 1 to 9 of a table; 15 to 17, 20, 22 and 23 of the relation; 21 of the output.
+abbrev pub MakerNumber : Answer → Type 0
+MakerNumber a =
+    ((a .code ≡ 0) × (a .file ≡ 0))
+    ⊎ ((1 ≤ a .code) × (a .code ≤ 9) × (a .file ≤ 1))
+    ⊎ ((15 ≤ a .code) × (a .code ≤ 17) × (a .file ≡ 2))
+    ⊎ ((a .code ≡ 20) × (a .file ≡ 2))
+    ⊎ ((a .code ≡ 21) × (a .file ≡ 3))
+    ⊎ ((22 ≤ a .code) × (a .code ≤ 23) × (a .file ≡ 2))
+
 -- The starts are related.
 abbrev pub StartsDrawn : (left right drawing : List ℕ) → Type 0
 StartsDrawn left right drawing = T (viewOf left right drawing .related (startOf left) (startOf right))
@@ -91,6 +101,8 @@ module _ (left right drawing output : List ℕ) where
 
   -- Demand 1 for the maker: each number exactly where its condition holds and none earlier in the order does, whatever the bytes.
   pub record MakesByConditions (answer : Answer) (after : List ℕ) : Type 0 where
+    -- it succeeds, or refuses with one of these numbers
+    pub one-number : MakerNumber answer
     -- 1 to 9 of the left table, then of the right
     pub left-table : (k : ℕ) → FirstApplies (tableCauses left) k ↔ ((answer .code ≡ k) × (answer .file ≡ 0) × (0 < k))
     pub right-table : (k : ℕ) → (NoneApplies (tableCauses left) × FirstApplies (tableCauses right) k) ↔ ((answer .code ≡ k) × (answer .file ≡ 1))
