@@ -14,19 +14,26 @@ fn the_tuned_maker_equals_the_plain_one() {
 }
 
 #[test]
-fn the_tuned_maker_equals_the_plain_one_on_the_fullest_systems() {
+fn the_relaxing_maker_equals_the_plain_one() {
+    compare::make(100_000, 8, oracle::make_by_relaxing).require_all();
+}
+
+#[test]
+fn the_makers_agree_on_the_fullest_systems() {
     for system in [all_related(), long_chains(), long_distances()] {
         for system in [system.clone(), system.exchanged()] {
             let (expected, certificate) = system.make();
-            let mut output = vec![0xa5; certificate.len()];
-            let made = oracle::tuned_maker::make(
-                &system.left_bytes(),
-                &system.right_bytes(),
-                &system.relation_bytes(),
-                &mut output,
-            );
-            assert_eq!(made, expected);
-            assert!(output == certificate, "the certificates differ");
+            for make in [oracle::make_by_relaxing, oracle::tuned_maker::make] {
+                let mut output = vec![0xa5; certificate.len()];
+                let made = make(
+                    &system.left_bytes(),
+                    &system.right_bytes(),
+                    &system.relation_bytes(),
+                    &mut output,
+                );
+                assert_eq!(made, expected);
+                assert!(output == certificate, "the certificates differ");
+            }
         }
     }
 }

@@ -17,7 +17,7 @@ pub mod tuned_maker;
 
 pub use certificate::Layout;
 pub use judge::judge;
-pub use maker::make;
+pub use maker::{make, make_by_relaxing};
 pub use path::path_property;
 pub use program::program;
 pub use table::{Step, Table};

@@ -5,10 +5,23 @@ use crate::side::{both_sides, judging_order, test_marks, test_starts, Look, Side
 use crate::table::read_table;
 use crate::Answer;
 
+/// The chase length of each own step at each other state: `[j][t]`.
+type Chase = fn(&Side) -> Vec<Vec<Option<usize>>>;
+
 /// "Input: two tables, n1 rows of 8 bytes, an output." On a refusal the output
 /// is left as it was; on success "bytes after L stay".
 pub fn make(left: &[u8], right: &[u8], relation: &[u8], output: &mut [u8]) -> Answer {
-    match certificate_for(left, right, relation, output.len()) {
+    make_by(chase_lengths, left, right, relation, output)
+}
+
+/// The same by the proved maker's method: one row of lengths is relaxed for each
+/// own step.
+pub fn make_by_relaxing(left: &[u8], right: &[u8], relation: &[u8], output: &mut [u8]) -> Answer {
+    make_by(relaxed_lengths, left, right, relation, output)
+}
+
+fn make_by(chase: Chase, left: &[u8], right: &[u8], relation: &[u8], output: &mut [u8]) -> Answer {
+    match certificate_for(chase, left, right, relation, output.len()) {
         Ok(file) => {
             output[..file.len()].copy_from_slice(&file);
             // "The maker succeeds with 0, 0, L."
@@ -21,6 +34,7 @@ pub fn make(left: &[u8], right: &[u8], relation: &[u8], output: &mut [u8]) -> An
 /// The certificate to be written, or the refusal. "maker 20, 15, 21, 16, then
 /// pairs and steps in judging order for 17 and 22, then 23, left side first".
 fn certificate_for(
+    chase: Chase,
     left: &[u8],
     right: &[u8],
     relation: &[u8],
@@ -43,7 +57,7 @@ fn certificate_for(
     test_starts(&left, &right, &related)?;
 
     let sides = both_sides(&left, &right, &related);
-    let chase = [chase_lengths(&sides[0]), chase_lengths(&sides[1])];
+    let chase = [chase(&sides[0]), chase(&sides[1])];
     for look in judging_order(&sides) {
         match look {
             Look::Marks { s, t } => test_marks(&left, &right, s, t)?,
@@ -117,6 +131,39 @@ fn chase_length(side: &Side, s: usize, u: usize, t: usize) -> Option<usize> {
         ends = longer;
     }
     None
+}
+
+fn relaxed_lengths(side: &Side) -> Vec<Vec<Option<usize>>> {
+    let steps = side.own.steps.iter();
+    steps
+        .map(|step| relaxed(side, step.from, step.to))
+        .collect()
+}
+
+/// The chase lengths of a step from s to u: 0 where 2a holds, and then a step of the
+/// other side shortens the length at the state it leaves, until none does.
+fn relaxed(side: &Side, s: usize, u: usize) -> Vec<Option<usize>> {
+    let mut lengths = vec![None; side.other.states()];
+    for step in &side.other.steps {
+        if side.related[s][step.from] && side.related[u][step.to] {
+            lengths[step.from] = Some(0);
+        }
+    }
+    let mut changed = true;
+    while changed {
+        changed = false;
+        for step in &side.other.steps {
+            let Some(after) = lengths[step.to] else {
+                continue;
+            };
+            let shorter = lengths[step.from].map_or(true, |length: usize| after + 1 < length);
+            if side.related[s][step.from] && shorter {
+                lengths[step.from] = Some(after + 1);
+                changed = true;
+            }
+        }
+    }
+    lengths
 }
 
 /// For each other state t and each own state s related to it, "the most steps in

@@ -19,9 +19,10 @@ const JUDGES: [(&str, Judge); 3] = [
 ];
 
 /// The makers, the proved one first.
-const MAKERS: [(&str, Make); 2] = [
+const MAKERS: [(&str, Make); 3] = [
     ("proved", stutter::make),
-    ("maker of the same method", oracle::tuned_maker::make),
+    ("plain maker of the same method", oracle::make_by_relaxing),
+    ("tuned maker of the same method", oracle::tuned_maker::make),
 ];
 
 const ROUNDS: usize = 301;
