@@ -15,7 +15,7 @@ fn the_tuned_maker_equals_the_plain_one() {
 
 #[test]
 fn the_relaxing_maker_equals_the_plain_one() {
-    compare::make(100_000, 8, oracle::make_by_relaxing).require_all();
+    compare::make(30_000, 8, oracle::make_by_relaxing).require_all();
 }
 
 #[test]
