@@ -5,7 +5,7 @@ use inputs::{all_related, long_chains, long_distances};
 
 #[test]
 fn the_tuned_judge_equals_the_plain_one() {
-    compare::judge(300_000, 1, oracle::tuned::judge).require_all();
+    compare::judge(100_000, 1, oracle::tuned::judge).require_all();
 }
 
 #[test]
