@@ -15,8 +15,8 @@ run:
 
 test:
 	rt fmt --check
+	rt check judge ranking
 	rt staticlib stutter
-	rt check judge
 	cargo test $(CARGO_WORDS)
 	rt ci
 

@@ -1,5 +1,3 @@
--- Laws of certificates and relations, for the proofs of this crate and of those above it.
+-- Laws of a certificate's layout and of the theory's view of it, for the proofs of this crate and of those above it.
 pub mod LayoutLaws
-pub mod CertificateTestLaws
-pub mod CertificateConditionLaws
-pub mod CertificateLaws
+pub mod ModelLaws

@@ -2,27 +2,26 @@
 use Prim.Native.Nat.{ℕ, suc, _+_, _^_, _≤_, _<_}
 use mathlib.Core.Path.{_≡_, refl, sym, ap, ap₂, _∙_, subst}
 use mathlib.Core.Logic.{inl, inr, ⊎-elim}
-use mathlib.Core.Bool.{Bool, true, false, cond, _&&_, _||_, and-false}
+use mathlib.Core.Bool.{Bool, _&&_, _||_}
 use mathlib.Core.List.{List}
 use native.Mathlib.Nat.{not-suc-le-zero}
 use native.Mathlib.Numerals.{add-one}
 use native.Mathlib.Omega.{arith}
 use native.Mathlib.Decide.{ℕ-discrete, decLt}
-use lib.Dec.{T, eqb, ltb, leb, eqb→eq, leb→le, le→leb}
+use lib.Dec.{T, eqb, leb, eqb→eq, leb→le, le→leb}
 use lib.ListN.{length, getD, set, length-set}
 use lib.Seq.{getD-set-same, getD-set-other}
 use borrow.Author.Count.{below-more}
-use borrow.Author.Tests.{lt-ltb, le-ltb, le-leb, eq-eqb, ne-eqb}
+use borrow.Author.Tests.{le-leb, eq-eqb, ne-eqb}
 use Rattle.lists.specs.Below.{anyBelow}
 use Rattle.lists.specs.Lists.{tabulate}
-use Rattle.lists.proofs.FillLaws.{length-tabulate, getD-tabulate, getD-past, tabulate-cong, tabulate-set}
+use Rattle.lists.proofs.FillLaws.{length-tabulate, getD-tabulate, getD-past}
 use Rattle.lists.proofs.BoolLaws.{and-l, and-r, and-i, or-e, or-l, or-r, not-T-false, same-T, eq→eqb}
 use Rattle.lists.proofs.BelowLaws.{any-e, any-i, any-cong}
 use Rattle.words.specs.Bits.{hasBit, addBit}
 use Rattle.words.proofs.BitLaws.{has-add-below, has-empty, add-word}
 use Rattle.tables.specs.Table.{labelOf, fromOf, toOf}
-use Rattle.certificates.specs.Layout.{rowOf}
-use Rattle.checker.specs.Plan.{stepsIn, rowWords, inColumn, NextFrom, relativesOf, StatesPlanned, StepsPlanned, StepsFit, PlanOf, Links}
+use Rattle.checker.specs.Plan.{stepsIn, NextFrom, StatesPlanned, StepsPlanned, StepsFit, PlanOf, Links}
 
 -- ---- three stores in a list
 
@@ -56,9 +55,9 @@ module _ (l : List ℕ) (a b c x y z : ℕ) (la : a < length l) (lb : b < length
 
 -- ---- the states
 
-module _ (labels rows : List ℕ) (side : ℕ) where
-  pub states-more : {n : ℕ} {l : List ℕ} {word label : ℕ} → StatesPlanned labels rows side n l → n < 64 → ((t : ℕ) → hasBit word t ≡ relativesOf rows side n t)
-      → word < 2 ^ 64 → label ≡ labelOf labels n → label < 65536 → StatesPlanned labels rows side (n + 1) (set (set (set l n word) (128 + n) 256) (192 + n) label)
+module _ (labels words : List ℕ) where
+  pub states-more : {n : ℕ} {l : List ℕ} {word label : ℕ} → StatesPlanned labels words n l → n < 64 → word ≡ getD words n 0
+      → word < 2 ^ 64 → label ≡ labelOf labels n → label < 65536 → StatesPlanned labels words (n + 1) (set (set (set l n word) (128 + n) 256) (192 + n) label)
   states-more {n} {l} {word} {label} w h rel fits e small =
       let r = w .room in
       let la : n < length l = omega arith in
@@ -71,9 +70,9 @@ module _ (labels rows : List ℕ) (side : ℕ) where
       record {
         room = stored-length l n (128 + n) (192 + n) word 256 label la lb lc ab ac bc ∙ r;
         fit = stored-words l n (128 + n) (192 + n) word 256 label la lb lc ab ac bc (w .fit) fits (omega arith) (omega arith);
-        related-are = below-more (λ (s : ℕ). (t : ℕ) → hasBit (getD (set (set (set l n word) (128 + n) 256) (192 + n) label) s 0) t ≡ relativesOf rows side s t) n
-            (λ s k t. ap (λ (x : ℕ). hasBit x t) (off s (λ q. omega arith) (λ q. omega arith) (λ q. omega arith)) ∙ w .related-are s k t)
-            (λ t. ap (λ (x : ℕ). hasBit x t) (at-first l n (128 + n) (192 + n) word 256 label la lb lc ab ac bc) ∙ rel t);
+        related-are = below-more (λ (s : ℕ). getD (set (set (set l n word) (128 + n) 256) (192 + n) label) s 0 ≡ getD words s 0) n
+            (λ s k. off s (λ q. omega arith) (λ q. omega arith) (λ q. omega arith) ∙ w .related-are s k)
+            (at-first l n (128 + n) (192 + n) word 256 label la lb lc ab ac bc ∙ rel);
         no-successors = λ s k. off (64 + s) (λ q. omega arith) (λ q. omega arith) (λ q. omega arith) ∙ w .no-successors s k;
         no-steps = below-more (λ (s : ℕ). getD (set (set (set l n word) (128 + n) 256) (192 + n) label) (128 + s) 0 ≡ 256) n
             (λ s k. off (128 + s) (λ q. omega arith) (λ q. omega arith) (λ q. omega arith) ∙ w .no-steps s k)
@@ -169,66 +168,13 @@ module _ (steps before : List ℕ) (fit : StepsFit steps) where
           ∙ ap₂ _||_ (eqb-swap u (toOf steps j)) (w .successors-are s ls u)
           ∙ sym (any-from (stepsIn steps) (λ k. eqb (fromOf steps k) s && eqb (toOf steps k) u) j h ∙ rw (eq-eqb (fromOf steps j) s (sym e)))
 
--- ---- a column of the words
-
-module _ (words : List ℕ) (t : ℕ) where
-  pub column-none : (s : ℕ) → hasBit 0 s ≡ inColumn words t 0 s
-  unfolding inColumn
-  column-none s = has-empty s ∙ sym (rw (le-ltb s 0 (omega arith)))
-
-  module _ (n : ℕ) (word : ℕ) (w : (s : ℕ) → hasBit word s ≡ inColumn words t n s) where
-    pub column-in : n < 64 → hasBit (getD words n 0) t ≡ true → (s : ℕ) → hasBit (addBit word n) s ≡ inColumn words t (n + 1) s
-    unfolding inColumn
-    column-in h e s = has-add-below word n s h ∙ ap (λ (b : Bool). eqb s n || b) (w s) ∙ elim (ℕ-discrete s n) [
-      | yes q ↦ rw (q, eq-eqb n n refl, lt-ltb n (n + 1) (omega arith), e)
-      | no q ↦ elim (decLt s n) [
-        | yes l ↦ rw (ne-eqb s n q, lt-ltb s n l, lt-ltb s (n + 1) (omega arith))
-        | no l ↦ rw (ne-eqb s n q, le-ltb s n (omega arith), le-ltb s (n + 1) (omega arith))
-      ]
-    ]
-
-    pub column-out : hasBit (getD words n 0) t ≡ false → (s : ℕ) → hasBit word s ≡ inColumn words t (n + 1) s
-    unfolding inColumn
-    column-out e s = w s ∙ elim (ℕ-discrete s n) [
-      | yes q ↦ rw (q, le-ltb n n (omega arith), lt-ltb n (n + 1) (omega arith), e)
-      | no q ↦ elim (decLt s n) [
-        | yes l ↦ rw (lt-ltb s n l, lt-ltb s (n + 1) (omega arith))
-        | no l ↦ rw (le-ltb s n (omega arith), le-ltb s (n + 1) (omega arith))
-      ]
-    ]
-
--- ---- the rows as words
-
-module _ (rows : List ℕ) where
-  -- The words of the first n rows.
-  abbrev wordsUpTo : ℕ → ℕ → ℕ
-  wordsUpTo n s = cond (ltb s n) (rowOf rows s) 0
-
-  pub words-length : (n : ℕ) {l : List ℕ} → l ≡ rowWords rows n → length l ≡ 64
-  unfolding rowWords
-  words-length n e = ap length e ∙ length-tabulate 64 (wordsUpTo n)
-
-  pub words-none : {l : List ℕ} → l ≡ tabulate 64 (λ _. 0) → l ≡ rowWords rows 0
-  unfolding rowWords
-  words-none e = e ∙ tabulate-cong 64 (λ _. 0) (wordsUpTo 0) (λ s h. sym (rw (le-ltb s 0 (omega arith))))
-
-  pub words-more : {n v : ℕ} {l : List ℕ} → l ≡ rowWords rows n → n < 64 → v ≡ rowOf rows n → set l n v ≡ rowWords rows (n + 1)
-  unfolding rowWords
-  words-more {n} {v} {l} e h q =
-      ap (λ (x : List ℕ). set x n v) e
-      ∙ tabulate-set 64 n v (wordsUpTo n) (wordsUpTo (n + 1)) h (q ∙ sym (rw (lt-ltb n (n + 1) (omega arith))))
-      (λ s l d. elim (decLt s n) [
-        | yes k ↦ rw (lt-ltb s n k, lt-ltb s (n + 1) (omega arith))
-        | no k ↦ rw (le-ltb s n (omega arith), le-ltb s (n + 1) (omega arith))
-      ])
-
 -- ---- the start
 
 zeros : (n i : ℕ) → getD (tabulate n (λ _. 0)) i 0 ≡ 0
 zeros n i = elim (decLt i n) [ yes l ↦ getD-tabulate n i (λ _. 0) l | no l ↦ getD-past (tabulate n (λ _. 0)) i (rw length-tabulate (omega arith)) ]
 
-pub states-none : (labels rows : List ℕ) (side : ℕ) {l : List ℕ} → l ≡ tabulate 512 (λ _. 0) → StatesPlanned labels rows side 0 l
-states-none labels rows side {l} e =
+pub states-none : (labels words : List ℕ) {l : List ℕ} → l ≡ tabulate 512 (λ _. 0) → StatesPlanned labels words 0 l
+states-none labels words {l} e =
     let z : (i : ℕ) → getD l i 0 ≡ 0 = λ i. ap (λ (x : List ℕ). getD x i 0) e ∙ zeros 512 i in
     record {
       room = ap length e ∙ length-tabulate 512 (λ _. 0);
@@ -240,8 +186,8 @@ states-none labels rows side {l} e =
     }
 
 -- no step is linked yet
-pub steps-none : {labels rows : List ℕ} {side : ℕ} {l : List ℕ} (steps : List ℕ) → StepsFit steps → StatesPlanned labels rows side 64 l → StepsPlanned steps l (stepsIn steps) l
-steps-none {labels} {rows} {side} {l} steps fit w =
+pub steps-none : {labels words : List ℕ} {l : List ℕ} (steps : List ℕ) → StepsFit steps → StatesPlanned labels words 64 l → StepsPlanned steps l (stepsIn steps) l
+steps-none {labels} {words} {l} steps fit w =
     let f = fit .few in
     record {
       room = w .room;
@@ -262,12 +208,11 @@ steps-none {labels} {rows} {side} {l} steps fit w =
         omega (arith, a, q .1)
 
 -- all are
-pub plan-is : {labels rows : List ℕ} {side : ℕ} {l : List ℕ} (steps plan : List ℕ) → StepsFit steps → StatesPlanned labels rows side 64 l → StepsPlanned steps l 0 plan
-    → PlanOf labels rows side steps plan
+pub plan-is : {labels words : List ℕ} {l : List ℕ} (steps plan : List ℕ) → StepsFit steps → StatesPlanned labels words 64 l → StepsPlanned steps l 0 plan → PlanOf labels words steps plan
 plan-is steps plan fit w p =
     record {
       fit = p .fit;
-      related-are = λ s h t. ap (λ (x : ℕ). hasBit x t) (p .related-kept s h) ∙ w .related-are s h t;
+      related-are = λ s h. p .related-kept s h ∙ w .related-are s h;
       successors-are = λ s h u. p .successors-are s h u ∙ any-cong _ _ _ (λ k l. rw (le-leb 0 k (omega arith)));
       labels-are = λ s h. p .labels-kept s h ∙ w .labels-are s h;
       links = record { few = fit .few; room = p .room; first = p .first; next = λ j l. p .next j (omega arith) l };

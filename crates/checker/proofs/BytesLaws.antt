@@ -1,86 +1,38 @@
 -- From bytes to the theory: where two tables and a certificate are read, the checks that the judge reads off its plans are the theory's checks of the
 -- view and ranks that the bytes give. Assumes nothing.
-use Prim.Native.Nat.{ℕ, zero, suc, suc-le-suc, zero-le, _+_, _*_, _/_, _^_, _≤_, _<_}
+use Prim.Native.Nat.{ℕ, _+_, _≤_, _<_}
 use mathlib.Core.Path.{_≡_, refl, sym, ap, ap₂, _∙_, subst}
 use mathlib.Core.Bool.{Bool, true, false, cond, _&&_}
 use mathlib.Core.List.{List, [], _∷_, _++_, map}
-use native.Mathlib.Nat.{not-suc-le-zero, le-of-suc-le-suc}
 use native.Mathlib.Omega.{arith}
-use native.Mathlib.Decide.{decLt}
-use lib.Dec.{T, ltb, eqb, eqb→eq}
+use lib.Dec.{eqb}
 use lib.ListN.{length, getD}
-use Rattle.lists.specs.Below.{anyBelow, firstBelow, sumBelow, countBelow}
-use Rattle.lists.proofs.BelowLaws.{first-is, sum-cong}
-use Rattle.lists.proofs.FillLaws.{getD-tabulate}
-use borrow.Author.Tests.{lt-ltb, le-ltb}
+use Rattle.lists.specs.Below.{anyBelow, sumBelow}
+use borrow.Author.Tests.{lt-ltb}
 use Rattle.lists.proofs.BoolLaws.{not-T-false}
-use Rattle.words.specs.Bits.{hasBit, firstBit, countBits}
-use Rattle.words.proofs.BitLaws.{has-empty}
+use Rattle.words.specs.Bits.{hasBit, countBits}
 use Rattle.bisimulation.specs.Systems.{View, Ranks, WellFormed, flip, swap}
 use Rattle.tables.specs.declared.Head.{Head}
-use Rattle.tables.specs.declared.TableRead.the-variants as table
-use Rattle.tables.specs.Table.{statesOf, startOf, stepsOf, initialOf, labelsPart, stepsPart, fromOf, toOf, labelOf, readTable}
+use Rattle.table_reader.specs.declared.TableRead.the-variants as table
+use Rattle.tables.specs.Table.{statesOf, stepsOf, labelsPart, stepsPart, fromOf, toOf}
+use Rattle.table_reader.specs.TableReading.{readTable}
 use Rattle.tables.specs.Model.{systemOf}
-use Rattle.tables.proofs.TableLaws.{table-ok, table-formed, steps-length}
+use Rattle.table_reader.proofs.TableLaws.{table-ok, table-formed, steps-length}
 use Rattle.certificates.specs.declared.Sizes.{Sizes}
-use Rattle.certificates.specs.declared.CertificateRead.the-variants as certificate
+use Rattle.certificate_reader.specs.declared.CertificateRead.the-variants as certificate
 use Rattle.certificates.specs.Layout.{sizesOf, rowsPart, rowOf}
-use Rattle.certificates.specs.Certificate.{readCertificate}
+use Rattle.certificate_reader.specs.CertificateReading.{readCertificate}
 use Rattle.certificates.specs.CertificateModel.{AreBytes, relatedIn, viewOf, ranksOf}
-use Rattle.certificates.proofs.CertificateLaws.{certificate-ok, rows-bytes, view-formed}
+use Rattle.certificates.proofs.ModelLaws.{rows-bytes}
+use Rattle.certificate_reader.proofs.CertificateLaws.{certificate-ok, view-formed}
+use Rattle.relations.specs.Relation.{rowWords, columnWords}
+use Rattle.relations.proofs.RelationLaws.{rows-has, columns-related, rows-ones}
 use Rattle.obligations.specs.Judging.{verdict, joinBelow, leftStep, rightStep, pairChecks, checks, Result, result, stepsFrom, labelsOf, passes, stops}
 use Rattle.checker.specs.Progress.{none, progress, endAnswer}
 use Rattle.checker.specs.Judge.{pairsIn, verdictAnswer, judged, judgedBytes}
-use Rattle.checker.specs.Plan.{stepsIn, rowWords, inColumn, relativesOf, StepsFit, PlanOf, Small, rankAt, leftRun, rightRun, leftChecks, rightChecks, checksAt, rowChecks, allChecks}
+use Rattle.checker.specs.Plan.{stepsIn, StepsFit, PlanOf, Small, rankAt, leftRun, rightRun, leftChecks, rightChecks, checksAt, rowChecks, allChecks}
 use Rattle.checker.proofs.JoinLaws.{join-cong, join-shrink, map-append, map-join, map-when}
 use Rattle.checker.proofs.VerdictLaws.{Sees, side-checks, map-steps, end-verdict}
-
--- ---- the rows as words
-
--- nothing is added from n on
-sum-shrink : (n m : ℕ) (f : ℕ → ℕ) → n ≤ m → ((i : ℕ) → n ≤ i → i < m → f i ≡ 0) → sumBelow m f ≡ sumBelow n f
-unfolding sumBelow
-sum-shrink zero zero f h none = refl
-sum-shrink zero (suc m) f h none = let e = none 0 zero-le (suc-le-suc zero-le) in let q = sum-shrink zero m (λ i. f (suc i)) zero-le (λ i b l. none (suc i) zero-le (suc-le-suc l)) in omega arith
-sum-shrink (suc n) zero f h none = absurd (not-suc-le-zero h)
-sum-shrink (suc n) (suc m) f h none = ap (λ (k : ℕ). f 0 + k) (sum-shrink n m (λ i. f (suc i)) (le-of-suc-le-suc h) (λ i b l. none (suc i) (suc-le-suc b) (suc-le-suc l)))
-
-empty-count : countBits 0 ≡ 0
-unfolding countBits countBelow sumBelow hasBit
-empty-count = refl
-
-module _ (rows : List ℕ) (n1 : ℕ) where
-  word-is : (s : ℕ) → s < 64 → getD (rowWords rows n1) s 0 ≡ cond (ltb s n1) (rowOf rows s) 0
-  unfolding rowWords
-  word-is s h = getD-tabulate 64 s (λ i. cond (ltb i n1) (rowOf rows i) 0) h
-
-  word-row : (s : ℕ) → s < 64 → s < n1 → getD (rowWords rows n1) s 0 ≡ rowOf rows s
-  word-row s h l = word-is s h ∙ ap (λ (b : Bool). cond b (rowOf rows s) 0) (lt-ltb s n1 l)
-
-  word-past : (s : ℕ) → s < 64 → n1 ≤ s → getD (rowWords rows n1) s 0 ≡ 0
-  word-past s h l = word-is s h ∙ ap (λ (b : Bool). cond b (rowOf rows s) 0) (le-ltb s n1 l)
-
-  words-related : (s t : ℕ) → s < 64 → hasBit (getD (rowWords rows n1) s 0) t ≡ relatedIn rows n1 s t
-  unfolding relatedIn
-  words-related s t h = ap (λ (w : ℕ). hasBit w t) (word-is s h) ∙ go (ltb s n1)
-    where
-      go : (b : Bool) → hasBit (cond b (rowOf rows s) 0) t ≡ (b && hasBit (rowOf rows s) t)
-      go true = refl
-      go false = has-empty t
-
-  module _ (few : n1 ≤ 64) where
-    column-related : (s t : ℕ) → inColumn (rowWords rows n1) s 64 t ≡ relatedIn rows n1 t s
-    unfolding inColumn relatedIn
-    column-related s t = elim (decLt t 64) [
-      | yes h ↦ rw (lt-ltb t 64 h) (words-related t s h)
-      | no h ↦ rw (le-ltb t 64 (omega arith), le-ltb t n1 (omega arith))
-    ]
-
-    words-pairs : sumBelow 64 (λ s. countBits (getD (rowWords rows n1) s 0)) ≡ pairsIn rows n1
-    unfolding pairsIn
-    words-pairs =
-        sum-shrink n1 64 (λ s. countBits (getD (rowWords rows n1) s 0)) few (λ s b l. ap countBits (word-past s l b) ∙ empty-count)
-        ∙ sum-cong n1 _ _ (λ s l. ap countBits (word-row s (omega arith) l))
 
 -- ---- a table that is read
 
@@ -100,17 +52,6 @@ module _ (s : List ℕ) {h : Head} (good : readTable s ≡ table.Good h) where
         from< = λ j l. omega (arith, f .from< j (rw steps-in at l));
         to< = λ j l. omega (arith, f .to< j (rw steps-in at l));
       }
-
-  -- the smallest initial state is the start
-  pub start-first : firstBit (h .initial .0) ≡ startOf s
-  unfolding firstBit systemOf
-  start-first =
-      let o = table-ok s good in
-      let f = table-formed s good in
-      let n = o .states-le in
-      let l = o .start-lt in
-      ap (λ (w : ℕ). firstBelow 64 (hasBit w)) (o .initial-is)
-      ∙ first-is 64 (hasBit (initialOf s)) (startOf s) (omega arith) (f .initial-some) (λ k b q. let e = eqb→eq k (startOf s) (subst T (f .one-initial k) q) in omega arith)
 
 -- ---- two tables and a certificate that are read
 
@@ -143,10 +84,10 @@ module _ (left right c : List ℕ) {h k : Head} {y : Sizes} (gl : readTable left
       let m2 = b .steps-le in
       record { n1< = omega arith; n2< = omega arith; m1< = omega arith; m2< = omega arith }
 
-  module _ (ours theirs : List ℕ) (po : PlanOf (labelsPart left) (rowWords rows (statesOf left)) 0 (stepsPart left) ours)
-      (pt : PlanOf (labelsPart right) (rowWords rows (statesOf left)) 1 (stepsPart right) theirs) where
+  module _ (ours theirs : List ℕ) (po : PlanOf (labelsPart left) (rowWords rows (statesOf left)) (stepsPart left) ours)
+      (pt : PlanOf (labelsPart right) (columnWords (rowWords rows (statesOf left))) (stepsPart right) theirs) where
     sees-left : (s t : ℕ) → s < 64 → t < 64 → Sees view ranks (stepsPart left) ours (getD theirs (64 + t) 0) c (leftRun sizes) (record { side = 0; own = s; other = t })
-    unfolding viewOf systemOf relativesOf rankAt ranksOf
+    unfolding viewOf systemOf rankAt ranksOf
     sees-left s t hs ht =
         let o = table-ok left gl in
         let n = o .states-le in
@@ -156,7 +97,7 @@ module _ (left right c : List ℕ) {h k : Head} {y : Sizes} (gl : readTable left
           to-are = λ j. refl;
           to< = λ j l. omega (arith, table-formed left gl .to< j l);
           own< = hs;
-          related-are = λ x h u. po .related-are x h u ∙ words-related rows (statesOf left) x u h;
+          related-are = λ x h u. ap (λ (w : ℕ). hasBit w u) (po .related-are x h) ∙ rows-has rows (statesOf left) x u h;
           ahead-are = λ u. pt .successors-are t ht u ∙ ap (λ (m : ℕ). anyBelow m (λ k. eqb (fromOf (stepsPart right) k) t && eqb (toOf (stepsPart right) k) u)) (steps-in right gr);
           ahead< = pt .fit (64 + t);
           stutter-are = λ x. refl;
@@ -167,7 +108,7 @@ module _ (left right c : List ℕ) {h k : Head} {y : Sizes} (gl : readTable left
         }
 
     sees-right : (s t : ℕ) → s < 64 → t < 64 → Sees (flip view) (swap ranks) (stepsPart right) theirs (getD ours (64 + s) 0) c (rightRun sizes) (record { side = 1; own = t; other = s })
-    unfolding viewOf systemOf relativesOf rankAt ranksOf
+    unfolding viewOf systemOf rankAt ranksOf
     sees-right s t hs ht =
         let o = table-ok right gr in
         let n = o .states-le in
@@ -177,7 +118,7 @@ module _ (left right c : List ℕ) {h k : Head} {y : Sizes} (gl : readTable left
           to-are = λ j. refl;
           to< = λ j l. omega (arith, table-formed right gr .to< j l);
           own< = ht;
-          related-are = λ x h u. pt .related-are x h u ∙ column-related rows (statesOf left) (table-ok left gl .states-le) x u;
+          related-are = λ x h u. ap (λ (w : ℕ). hasBit w u) (pt .related-are x h) ∙ columns-related rows (statesOf left) (table-ok left gl .states-le) x u h;
           ahead-are = λ u. po .successors-are s hs u ∙ ap (λ (m : ℕ). anyBelow m (λ k. eqb (fromOf (stepsPart left) k) s && eqb (toOf (stepsPart left) k) u)) (steps-in left gl);
           ahead< = po .fit (64 + s);
           stutter-are = λ x. refl;
@@ -196,8 +137,8 @@ module _ (left right c : List ℕ) {h k : Head} {y : Sizes} (gl : readTable left
     label-right t h = pt .labels-are t h
 
     related-are : (s t : ℕ) → s < 64 → hasBit (getD ours s 0) t ≡ view .related s t
-    unfolding viewOf relativesOf
-    related-are s t h = po .related-are s h t ∙ words-related rows (statesOf left) s t h
+    unfolding viewOf
+    related-are s t h = ap (λ (w : ℕ). hasBit w t) (po .related-are s h) ∙ rows-has rows (statesOf left) s t h
 
     few : (view .own .states ≤ 64) × (view .other .states ≤ 64)
     unfolding viewOf systemOf
@@ -266,15 +207,19 @@ module _ (left right c : List ℕ) {h k : Head} {y : Sizes} (gl : readTable left
     unfolding judgedBytes judged
     starts-unrelated e = sym (rw (sym start-related ∙ e))
 
+    pairs-are : statesOf left ≤ 64 → sumBelow 64 (λ s. countBits (getD (rowWords rows (statesOf left)) s 0)) ≡ pairsIn rows (statesOf left)
+    unfolding pairsIn
+    pairs-are = rows-ones rows (statesOf left)
+
     -- and the verdict
-    pub starts-related : {words ls rs ll rl ours theirs : List ℕ} {pairs : ℕ} → words ≡ rowWords rows′ (z .n1) → ls ≡ stepsPart left → rs ≡ stepsPart right → ll ≡ labelsPart left → rl ≡ labelsPart right
-        → PlanOf ll words 0 ls ours → PlanOf rl words 1 rs theirs → pairs ≡ sumBelow 64 (λ s. countBits (getD words s 0)) → hasBit (rowOf rows′ s) t ≡ true
+    pub starts-related : {words columns ls rs ll rl ours theirs : List ℕ} {pairs : ℕ} → words ≡ rowWords rows′ (z .n1) → columns ≡ columnWords words → ls ≡ stepsPart left → rs ≡ stepsPart right → ll ≡ labelsPart left → rl ≡ labelsPart right
+        → PlanOf ll words ls ours → PlanOf rl columns rs theirs → pairs ≡ sumBelow 64 (λ s. countBits (getD words s 0)) → hasBit (rowOf rows′ s) t ≡ true
         → endAnswer pairs (progress (allChecks ls rs ours theirs c z) none) ≡ judgedBytes left right c s t
     unfolding judgedBytes judged sizesOf
-    starts-related {words} {ls} {rs} {ll} {rl} {ours} {theirs} {pairs} ew els ers ell erl po pt ep e =
+    starts-related {words} {columns} {ls} {rs} {ll} {rl} {ours} {theirs} {pairs} ew ec els ers ell erl po pt ep e =
         let n : z .n1 ≡ statesOf left = ap (λ (x : Sizes). x .n1) ez in
         let w : words ≡ rowWords rows (statesOf left) = ew ∙ ap₂ rowWords rows-are n in
-        let po′ : PlanOf (labelsPart left) (rowWords rows (statesOf left)) 0 (stepsPart left) ours = rw (ell, w, els) at po in
-        let pt′ : PlanOf (labelsPart right) (rowWords rows (statesOf left)) 1 (stepsPart right) theirs = rw (erl, w, ers) at pt in
-        let q : pairs ≡ pairsIn rows (statesOf left) = ep ∙ ap (λ (x : List ℕ). sumBelow 64 (λ s. countBits (getD x s 0))) w ∙ words-pairs rows (statesOf left) (table-ok left gl .states-le) in
+        let po′ : PlanOf (labelsPart left) (rowWords rows (statesOf left)) (stepsPart left) ours = rw (ell, w, els) at po in
+        let pt′ : PlanOf (labelsPart right) (columnWords (rowWords rows (statesOf left))) (stepsPart right) theirs = rw (erl, ec, w, ers) at pt in
+        let q : pairs ≡ pairsIn rows (statesOf left) = ep ∙ ap (λ (x : List ℕ). sumBelow 64 (λ s. countBits (getD x s 0))) w ∙ pairs-are (table-ok left gl .states-le) in
         rw (els, ers, ez, q, sym start-related ∙ e) (end-is ours theirs po′ pt′ (pairsIn rows (statesOf left)))

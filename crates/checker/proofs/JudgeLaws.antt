@@ -2,20 +2,23 @@
 use Prim.Native.Nat.{ℕ}
 use mathlib.Core.Path.{_≡_, sym, ap, _∙_}
 use mathlib.Core.List.{List}
-use Rattle.tables.specs.Table.{readTable, startOf}
-use Rattle.tables.specs.Answers.{tableAnswer}
+use Rattle.tables.specs.Table.{startOf}
+use Rattle.table_reader.specs.TableReading.{readTable}
+use Rattle.table_reader.specs.TableAnswers.{tableAnswer}
 use Rattle.tables.specs.declared.Head.{Head}
-use Rattle.tables.specs.declared.TableRefusal.{TableRefusal}
-use Rattle.tables.specs.declared.TableRead.{TableRead}
-use Rattle.tables.specs.declared.TableRead.the-variants as table
+use Rattle.table_reader.specs.declared.TableRefusal.{TableRefusal}
+use Rattle.table_reader.specs.declared.TableRead.{TableRead}
+use Rattle.table_reader.specs.declared.TableRead.the-variants as table
 use Rattle.certificates.specs.Layout.{sizesOf}
-use Rattle.certificates.specs.Certificate.{readCertificate}
-use Rattle.certificates.specs.CertificateAnswers.{certificateAnswer}
+use Rattle.certificate_reader.specs.CertificateReading.{readCertificate}
+use Rattle.certificate_reader.specs.CertificateAnswers.{certificateAnswer}
 use Rattle.certificates.specs.declared.Sizes.{Sizes}
-use Rattle.certificates.specs.declared.CertificateRefusal.{CertificateRefusal}
-use Rattle.certificates.specs.declared.CertificateRead.{CertificateRead}
-use Rattle.certificates.specs.declared.CertificateRead.the-variants as certificate
-use Rattle.checker.specs.Judge.{blank, tableThen, certificateThen, judgedBytes, judgeAnswer}
+use Rattle.certificate_reader.specs.declared.CertificateRefusal.{CertificateRefusal}
+use Rattle.certificate_reader.specs.declared.CertificateRead.{CertificateRead}
+use Rattle.certificate_reader.specs.declared.CertificateRead.the-variants as certificate
+use Rattle.checker.specs.Judge.{certificateThen, judgedBytes, judgeAnswer}
+use Rattle.tables.specs.Answers.{blank}
+use Rattle.table_reader.specs.TableAnswers.{tableThen}
 
 module _ (left right c : List ℕ) where
   -- the answer of a refusal

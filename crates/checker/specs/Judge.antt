@@ -7,30 +7,21 @@ use mathlib.Core.List.{List}
 use Rattle.lists.specs.Below.{sumBelow}
 use Rattle.words.specs.Bits.{countBits}
 use Rattle.bisimulation.specs.Systems.{View, Ranks}
-use Rattle.tables.specs.Table.{readTable, statesOf, startOf}
-use Rattle.tables.specs.Answers.{tableAnswer}
+use Rattle.tables.specs.Table.{statesOf, startOf}
+use Rattle.table_reader.specs.TableReading.{readTable}
+use Rattle.table_reader.specs.TableAnswers.{tableThen}
 use Rattle.tables.specs.declared.Answer.{Answer}
 use Rattle.tables.specs.declared.Head.{Head}
-use Rattle.tables.specs.declared.TableRead.{TableRead}
-use Rattle.tables.specs.declared.TableRead.the-variants as table
+use Rattle.table_reader.specs.declared.TableRead.the-variants as table
 use Rattle.certificates.specs.Layout.{sizesOf, rowsPart, rowOf}
-use Rattle.certificates.specs.Certificate.{readCertificate}
-use Rattle.certificates.specs.CertificateAnswers.{certificateAnswer}
+use Rattle.certificate_reader.specs.CertificateReading.{readCertificate}
+use Rattle.certificate_reader.specs.CertificateAnswers.{certificateAnswer}
 use Rattle.certificates.specs.CertificateModel.{viewOf, ranksOf}
 use Rattle.certificates.specs.declared.Sizes.{Sizes}
-use Rattle.certificates.specs.declared.CertificateRead.{CertificateRead}
-use Rattle.certificates.specs.declared.CertificateRead.the-variants as certificate
+use Rattle.certificate_reader.specs.declared.CertificateRead.{CertificateRead}
+use Rattle.certificate_reader.specs.declared.CertificateRead.the-variants as certificate
 use Rattle.obligations.specs.Judging.{checks, Verdict, accepted, refusedWith, verdict, countBy}
 use Rattle.obligations.specs.declared.Clause.the-variants.{Answer as Answered, Stutter as Stuttered, Match as Matched}
-
--- No number at all.
-abbrev pub blank : Answer
-blank = record { code = 0; file = 0; a = 0; b = 0; c = 0; d = 0 }
-
--- The refusal of a table, or what follows where it is good.
-abbrev pub tableThen : TableRead → ℕ → Answer → Answer
-tableThen (table.Good head) file rest = rest
-tableThen (table.Refused refusal) file rest = tableAnswer refusal file
 
 -- The refusal of a certificate, or what follows where it is good.
 abbrev pub certificateThen : CertificateRead → Answer → Answer

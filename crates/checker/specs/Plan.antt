@@ -5,15 +5,14 @@ use Prim.Native.Nat.{ℕ, _+_, _*_, _/_, _^_, _≤_, _<_}
 use mathlib.Core.Path.{_≡_}
 use mathlib.Core.Bool.{Bool, true, cond, _&&_}
 use mathlib.Core.List.{List, [], _∷_, _++_}
-use lib.Dec.{ltb, leb, eqb}
+use lib.Dec.{leb, eqb}
 use lib.ListN.{length, getD, drop}
 use Rattle.lists.specs.Below.{anyBelow}
-use Rattle.lists.specs.Lists.{tabulate}
 use Rattle.lists.specs.Numbers.{byteAt}
 use Rattle.words.specs.Bits.{hasBit}
 use Rattle.tables.specs.Table.{labelOf, fromOf, toOf}
 use Rattle.tables.specs.declared.Answer.{Answer}
-use Rattle.certificates.specs.Layout.{rowOf, alAt, arAt, clAt, crAt}
+use Rattle.certificates.specs.Layout.{alAt, arAt, clAt, crAt}
 use Rattle.certificates.specs.declared.Sizes.{Sizes}
 use Rattle.obligations.specs.declared.Facing.{Facing}
 use Rattle.obligations.specs.declared.Outcome.{Outcome}
@@ -40,23 +39,11 @@ pub record Links (steps plan : List ℕ) : Type 0 where
   pub first : (s : ℕ) → s < 64 → NextFrom steps s 0 (getD plan (128 + s) 0)
   pub next : (j : ℕ) → j < stepsIn steps → NextFrom steps (fromOf steps j) (j + 1) (getD plan (256 + j) 0)
 
--- The rows as 64 words: row s for s below n1, then empty words.
-unfoldable pub rowWords : List ℕ → ℕ → List ℕ
-rowWords rows n1 = tabulate 64 (λ s. cond (ltb s n1) (rowOf rows s) 0)
-
--- s is below n, and word s has t.
-unfoldable pub inColumn : List ℕ → ℕ → ℕ → ℕ → Bool
-inColumn words t n s = ltb s n && hasBit (getD words s 0) t
-
--- s of the side 0 or 1 and t of the other are related, where the words are the left states' rows.
-unfoldable pub relativesOf : List ℕ → ℕ → ℕ → ℕ → Bool
-relativesOf words side s t = cond (eqb side 0) (hasBit (getD words s 0) t) (inColumn words s 64 t)
-
 -- What the plan says of the first n states, before steps are linked.
-pub record StatesPlanned (labels words : List ℕ) (side n : ℕ) (plan : List ℕ) : Type 0 where
+pub record StatesPlanned (labels words : List ℕ) (n : ℕ) (plan : List ℕ) : Type 0 where
   pub room : length plan ≡ 512
   pub fit : (i : ℕ) → getD plan i 0 < 2 ^ 64
-  pub related-are : (s : ℕ) → s < n → (t : ℕ) → hasBit (getD plan s 0) t ≡ relativesOf words side s t
+  pub related-are : (s : ℕ) → s < n → getD plan s 0 ≡ getD words s 0
   pub no-successors : (s : ℕ) → s < 64 → getD plan (64 + s) 0 ≡ 0
   pub no-steps : (s : ℕ) → s < n → getD plan (128 + s) 0 ≡ 256
   pub labels-are : (s : ℕ) → s < n → getD plan (192 + s) 0 ≡ labelOf labels s
@@ -72,10 +59,10 @@ pub record StepsPlanned (steps before : List ℕ) (a : ℕ) (plan : List ℕ) : 
   pub first : (s : ℕ) → s < 64 → NextFrom steps s a (getD plan (128 + s) 0)
   pub next : (j : ℕ) → a ≤ j → j < stepsIn steps → NextFrom steps (fromOf steps j) (j + 1) (getD plan (256 + j) 0)
 
--- The whole plan of a side.
-pub record PlanOf (labels words : List ℕ) (side : ℕ) (steps plan : List ℕ) : Type 0 where
+-- The whole plan of a side, where the words have the states related to each of its own.
+pub record PlanOf (labels words steps plan : List ℕ) : Type 0 where
   pub fit : (i : ℕ) → getD plan i 0 < 2 ^ 64
-  pub related-are : (s : ℕ) → s < 64 → (t : ℕ) → hasBit (getD plan s 0) t ≡ relativesOf words side s t
+  pub related-are : (s : ℕ) → s < 64 → getD plan s 0 ≡ getD words s 0
   pub successors-are : (s : ℕ) → s < 64 → (u : ℕ) → hasBit (getD plan (64 + s) 0) u ≡ anyBelow (stepsIn steps) (λ k. eqb (fromOf steps k) s && eqb (toOf steps k) u)
   pub labels-are : (s : ℕ) → s < 64 → getD plan (192 + s) 0 ≡ labelOf labels s
   pub links : Links steps plan

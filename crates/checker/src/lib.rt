@@ -1,8 +1,8 @@
 // The judge: six numbers for any three byte strings. What it looks at is worked out once a call, as words, so that an obligation costs a few
 // instructions and no list of steps is searched for one.
-use certificates::CertificateRead;
+use certificate_reader::CertificateRead;
+use certificate_reader::read_certificate;
 use certificates::Sizes;
-use certificates::read_certificate;
 use certificates::row;
 use certificates::rows;
 use lists::byte;
@@ -12,26 +12,31 @@ use obligations::Clause;
 use obligations::Facing;
 use obligations::Outcome;
 use obligations::obligation;
+use relations::column_words;
+use relations::row_words;
+use table_reader::TableRead;
+use table_reader::read_table;
+use table_reader::table_answer;
 use tables::Answer;
-use tables::TableRead;
 use tables::from;
 use tables::label;
 use tables::labels;
-use tables::read_table;
 use tables::steps;
 use tables::to;
 use words::Row;
 ghost use mathlib.Core.Path.{_≡_};
 ghost use mathlib.Core.List.{_++_};
-ghost use Prim.Native.Nat.{ℕ, _+_, _*_, _^_, _≤_, _<_};
+ghost use Prim.Native.Nat.{_+_, _*_, _^_, _≤_, _<_};
 ghost use lib.ListN.{length, getD, drop};
 ghost use Rattle.tables.specs.Table.{statesOf};
 ghost use Rattle.lists.specs.Below.{sumBelow};
-ghost use Rattle.words.specs.Bits.{hasBit, countBits};
+ghost use Rattle.words.specs.Bits.{countBits};
 ghost use Rattle.certificates.specs.declared.Sizes.{Sizes};
 ghost use Rattle.checker.specs.Progress.{none, addTo, total, progress, endAnswer};
-ghost use Rattle.checker.specs.Plan.{stepsIn, rowWords, inColumn, relativesOf, StatesPlanned, StepsPlanned, StepsFit, PlanOf, Links, Small, Within, leftRun, rightRun, failedAt, rankAt, outcomeAt, stepChecks, checksAt, rowChecks, allChecks};
-ghost use Rattle.checker.specs.Judge.{blank, tableThen, certificateThen, AllRead, judgedBytes, judgeAnswer};
+ghost use Rattle.checker.specs.Plan.{stepsIn, StatesPlanned, StepsPlanned, StepsFit, PlanOf, Links, Small, Within, leftRun, rightRun, failedAt, rankAt, outcomeAt, stepChecks, checksAt, rowChecks, allChecks};
+ghost use Rattle.checker.specs.Judge.{certificateThen, AllRead, judgedBytes, judgeAnswer};
+ghost use Rattle.tables.specs.Answers.{blank};
+ghost use Rattle.table_reader.specs.TableAnswers.{tableThen};
 
 // How many obligations each clause has met.
 struct Tally {
@@ -337,59 +342,15 @@ fn check_all(
     Progress::On(met)
 }
 
-// The rows as words: row s for s below n1, and empty words after them.
-fn row_words(rows: &[u8], n1: usize) -> [u64; 64]
-    requires { ⌜ n1 ≤ 64 ⌝ }
-    ensures { λ r. ⌜ r ≡ rowWords (now (rows .entry)) n1 ⌝ }
-{
-    let mut words: [u64; 64] = [0; 64];
-    let mut s: usize = 0;
-    while s < n1 {
-        let word = row(rows, s);
-        words[s] = word.0;
-        s += 1;
-    }
-    words
-}
-
-// The states whose word has t.
-fn column(words: &[u64], t: usize) -> Row
-    requires { ⌜ length (now words) ≡ 64 ⌝ }
-    ensures { λ r. ⌜ ((s : ℕ) → hasBit (r .0) s ≡ inColumn (now (words .entry)) t 64 s) ⌝ }
-{
-    let mut states = Row::empty();
-    let mut s: usize = 0;
-    while s < 64 {
-        let word = Row(words[s]);
-        if word.has(t) {
-            states = states.add(s);
-        }
-        s += 1;
-    }
-    states
-}
-
-// The states that are related to the state s of the side, where the words are the rows.
-fn relatives(words: &[u64], side: usize, s: usize) -> Row
-    requires { ⌜ (length (now words) ≡ 64) × (s < 64) ⌝ }
-    ensures { λ r. ⌜ ((t : ℕ) → hasBit (r .0) t ≡ relativesOf (now (words .entry)) side s t) ⌝ }
-{
-    if side != 0 {
-        return column(words, s);
-    }
-    Row(words[s])
-}
-
 // The plan's words of states: their relatives and labels, and no step yet.
-fn plan_states(labels: &[u8], words: &[u64], side: usize) -> [u64; 512]
+fn plan_states(labels: &[u8], words: &[u64]) -> [u64; 512]
     requires { ⌜ length (now words) ≡ 64 ⌝ }
-    ensures { λ r. ⌜ StatesPlanned (now (labels .entry)) (now (words .entry)) side 64 r ⌝ }
+    ensures { λ r. ⌜ StatesPlanned (now (labels .entry)) (now (words .entry)) 64 r ⌝ }
 {
     let mut plan: [u64; 512] = [0; 512];
     let mut s: usize = 0;
     while s < 64 {
-        let word = relatives(words, side, s);
-        plan[s] = word.0;
+        plan[s] = words[s];
         plan[128 + s] = 256;
         plan[192 + s] = label(labels, s);
         s += 1;
@@ -417,12 +378,12 @@ fn plan_steps(states: [u64; 512], steps: &[u8]) -> [u64; 512]
     plan
 }
 
-// The plan of a side: 0 left, 1 right.
-fn plan_side(labels: &[u8], words: &[u64], side: usize, steps: &[u8]) -> [u64; 512]
+// The plan of a side, where the words have the states related to each of its own.
+fn plan_side(labels: &[u8], words: &[u64], steps: &[u8]) -> [u64; 512]
     requires { ⌜ (length (now words) ≡ 64) × StepsFit (now steps) ⌝ }
-    ensures { λ r. ⌜ PlanOf (now (labels .entry)) (now (words .entry)) side (now (steps .entry)) r ⌝ }
+    ensures { λ r. ⌜ PlanOf (now (labels .entry)) (now (words .entry)) (now (steps .entry)) r ⌝ }
 {
-    let states = plan_states(labels, words, side);
+    let states = plan_states(labels, words);
     plan_steps(states, steps)
 }
 
@@ -465,7 +426,6 @@ fn judge_read(left: &[u8], right: &[u8], certificate: &[u8], s: usize, t: usize)
 {
     let sizes = Sizes::of(left, right);
     let rows = rows(certificate, sizes);
-    let words = row_words(rows, sizes.n1 as usize);
     let word = row(rows, s);
     if !word.has(t) {
         return Answer {
@@ -477,30 +437,15 @@ fn judge_read(left: &[u8], right: &[u8], certificate: &[u8], s: usize, t: usize)
             d: 0,
         };
     }
+    let words = row_words(rows, sizes.n1 as usize);
+    let columns = column_words(&words);
     let pairs = count_pairs(&words);
     let left_steps = steps(left);
     let right_steps = steps(right);
-    let ours = plan_side(labels(left), &words, 0, left_steps);
-    let theirs = plan_side(labels(right), &words, 1, right_steps);
+    let ours = plan_side(labels(left), &words, left_steps);
+    let theirs = plan_side(labels(right), &columns, right_steps);
     let end = check_all(left_steps, right_steps, &ours, &theirs, certificate, sizes);
     end_answer(end, pairs)
-}
-
-// The answer of a table's read that is no header; for a header it is blank.
-pub fn table_answer(read: TableRead, file: usize) -> Answer
-    ensures { λ r. ⌜ r ≡ tableThen read file blank ⌝ }
-{
-    let TableRead::Refused(refusal) = read else {
-        return Answer {
-            code: 0,
-            file: 0,
-            a: 0,
-            b: 0,
-            c: 0,
-            d: 0,
-        };
-    };
-    refusal.answer(file)
 }
 
 // The answer of a certificate's read that is refused; for any other it is blank.

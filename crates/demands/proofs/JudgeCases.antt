@@ -8,26 +8,27 @@ use mathlib.Core.List.{List}
 use native.Mathlib.Omega.{arith}
 use lib.Dec.{T}
 use Rattle.bisimulation.specs.Systems.{View, Ranks, flip, swap}
-use Rattle.tables.specs.Table.{statesOf, startOf, headOf, readTable}
-use Rattle.tables.specs.Answers.{tableAnswer}
-use Rattle.tables.specs.Conditions.{NoneApplies, tableCauses}
+use Rattle.tables.specs.Table.{statesOf, startOf}
+use Rattle.table_reader.specs.TableReading.{headOf, readTable}
+use Rattle.table_reader.specs.TableAnswers.{tableAnswer}
+use Rattle.table_reader.specs.Conditions.{NoneApplies, tableCauses}
 use Rattle.tables.specs.declared.Answer.{Answer}
 use Rattle.tables.specs.declared.Head.{Head}
-use Rattle.tables.specs.declared.TableRefusal.{TableRefusal}
-use Rattle.tables.specs.declared.TableRefusal.the-variants.{Short, Magic, Version, States, Start, Steps, Length, StepEnd, Doubled}
-use Rattle.tables.specs.declared.TableRead.{TableRead}
-use Rattle.tables.specs.declared.TableRead.the-variants as table
-use Rattle.tables.proofs.ConditionLaws.{good-none, none-good}
+use Rattle.table_reader.specs.declared.TableRefusal.{TableRefusal}
+use Rattle.table_reader.specs.declared.TableRefusal.the-variants.{Short, Magic, Version, States, Start, Steps, Length, StepEnd, Doubled}
+use Rattle.table_reader.specs.declared.TableRead.{TableRead}
+use Rattle.table_reader.specs.declared.TableRead.the-variants as table
+use Rattle.table_reader.proofs.ConditionLaws.{good-none, none-good}
 use Rattle.certificates.specs.Layout.{sizesOf, rowsPart}
-use Rattle.certificates.specs.Certificate.{readCertificate}
-use Rattle.certificates.specs.CertificateAnswers.{certificateAnswer}
-use Rattle.certificates.specs.CertificateConditions.{certificateCauses}
+use Rattle.certificate_reader.specs.CertificateReading.{readCertificate}
+use Rattle.certificate_reader.specs.CertificateAnswers.{certificateAnswer}
+use Rattle.certificate_reader.specs.CertificateConditions.{certificateCauses}
 use Rattle.certificates.specs.declared.Sizes.{Sizes}
-use Rattle.certificates.specs.declared.CertificateRefusal.{CertificateRefusal}
-use Rattle.certificates.specs.declared.CertificateRefusal.the-variants as refused
-use Rattle.certificates.specs.declared.CertificateRead.{CertificateRead}
-use Rattle.certificates.specs.declared.CertificateRead.the-variants as certificate
-use Rattle.certificates.proofs.CertificateConditionLaws.{certificate-good-none, certificate-none-good}
+use Rattle.certificate_reader.specs.declared.CertificateRefusal.{CertificateRefusal}
+use Rattle.certificate_reader.specs.declared.CertificateRefusal.the-variants as refused
+use Rattle.certificate_reader.specs.declared.CertificateRead.{CertificateRead}
+use Rattle.certificate_reader.specs.declared.CertificateRead.the-variants as certificate
+use Rattle.certificate_reader.proofs.CertificateConditionLaws.{certificate-good-none, certificate-none-good}
 use Rattle.obligations.specs.Judging.{Check, labelsOf, leftStep, rightStep, checks, Verdict, accepted, refusedWith, verdict}
 use Rattle.checker.specs.Judge.{pairsIn, verdictAnswer, judged, judgedBytes, judgeAnswer}
 use Rattle.checker.proofs.JudgeLaws.{left-answer, right-answer, certificate-answer, all-read}

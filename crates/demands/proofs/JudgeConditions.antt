@@ -10,22 +10,23 @@ use lib.ListN.{getD}
 use Rattle.lists.specs.Below.{IsFirstBelow}
 use Rattle.lists.specs.Lists.{All}
 use Rattle.lists.proofs.BoolLaws.{T-true, not-T-false}
-use Rattle.tables.specs.Table.{statesOf, stepsOf, startOf, readTable}
-use Rattle.tables.specs.Answers.{tableAnswer}
-use Rattle.tables.specs.Conditions.{FirstApplies, NoneApplies, tableCauses, EndOutside, EqualsEarlier}
+use Rattle.tables.specs.Table.{statesOf, stepsOf, startOf}
+use Rattle.table_reader.specs.TableReading.{readTable}
+use Rattle.table_reader.specs.TableAnswers.{tableAnswer}
+use Rattle.table_reader.specs.Conditions.{FirstApplies, NoneApplies, tableCauses, EndOutside, EqualsEarlier}
 use Rattle.tables.specs.declared.Answer.{Answer}
-use Rattle.tables.specs.declared.TableRefusal.{TableRefusal}
-use Rattle.tables.specs.declared.TableRefusal.the-variants.{Short, Magic, Version, States, Start, Steps, Length, StepEnd, Doubled}
-use Rattle.tables.specs.declared.TableRead.the-variants as table
-use Rattle.tables.proofs.ConditionLaws.{refused-first, first-refused, none-good, end-outside-first, doubled-first}
+use Rattle.table_reader.specs.declared.TableRefusal.{TableRefusal}
+use Rattle.table_reader.specs.declared.TableRefusal.the-variants.{Short, Magic, Version, States, Start, Steps, Length, StepEnd, Doubled}
+use Rattle.table_reader.specs.declared.TableRead.the-variants as table
+use Rattle.table_reader.proofs.ConditionLaws.{refused-first, first-refused, none-good, end-outside-first, doubled-first}
 use Rattle.certificates.specs.Layout.{sizesOf, rowsPart}
-use Rattle.certificates.specs.Certificate.{readCertificate}
-use Rattle.certificates.specs.CertificateAnswers.{certificateAnswer}
-use Rattle.certificates.specs.CertificateConditions.{certificateCauses, certificateNumbers, HasWideBit}
-use Rattle.certificates.specs.declared.CertificateRefusal.{CertificateRefusal}
-use Rattle.certificates.specs.declared.CertificateRefusal.the-variants as refused
-use Rattle.certificates.specs.declared.CertificateRead.the-variants as certificate
-use Rattle.certificates.proofs.CertificateConditionLaws.{certificate-refused-first, first-certificate-refused, certificate-none-good, certificate-row-first}
+use Rattle.certificate_reader.specs.CertificateReading.{readCertificate}
+use Rattle.certificate_reader.specs.CertificateAnswers.{certificateAnswer}
+use Rattle.certificate_reader.specs.CertificateConditions.{certificateCauses, certificateNumbers, HasWideBit}
+use Rattle.certificate_reader.specs.declared.CertificateRefusal.{CertificateRefusal}
+use Rattle.certificate_reader.specs.declared.CertificateRefusal.the-variants as refused
+use Rattle.certificate_reader.specs.declared.CertificateRead.the-variants as certificate
+use Rattle.certificate_reader.proofs.CertificateConditionLaws.{certificate-refused-first, first-certificate-refused, certificate-none-good, certificate-row-first}
 use Rattle.obligations.specs.Judging.{checks, accepted, refusedWith, verdict}
 use Rattle.obligations.proofs.JudgingLaws.{verdict-i, verdict-e}
 use Rattle.checker.specs.Judge.{pairsIn, verdictAnswer, judged, judgedBytes, judgeAnswer}

@@ -22,12 +22,12 @@ use Rattle.bisimulation.proofs.NamjoshiTheorems.{bisimulation-accepted, accepte
 use Rattle.tables.specs.Table.{statesOf, stepsOf, startOf}
 use Rattle.tables.specs.Model.{systemOf}
 use Rattle.tables.specs.declared.Answer.{Answer}
-use Rattle.tables.proofs.ConditionLaws.{none-good}
-use Rattle.tables.proofs.TableLaws.{table-formed}
+use Rattle.table_reader.proofs.ConditionLaws.{none-good}
+use Rattle.table_reader.proofs.TableLaws.{table-formed}
 use Rattle.certificates.specs.Layout.{sizesOf, rowsPart, rowOf}
 use Rattle.certificates.specs.CertificateModel.{AreBytes, viewOf, ranksOf}
-use Rattle.certificates.proofs.CertificateConditionLaws.{certificate-none-good}
-use Rattle.certificates.proofs.CertificateLaws.{view-plain}
+use Rattle.certificate_reader.proofs.CertificateConditionLaws.{certificate-none-good}
+use Rattle.certificates.proofs.ModelLaws.{view-plain}
 use Rattle.obligations.specs.Judging.{checks, accepted, verdict, countBy, countObligations}
 use Rattle.obligations.specs.declared.Clause.the-variants.{Answer as Answered, Stutter as Stuttered, Match as Matched}
 use Rattle.obligations.proofs.JudgingLaws.{verdict-iff, verdict-e, counts-sum}

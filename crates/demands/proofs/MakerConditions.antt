@@ -13,24 +13,26 @@ use Rattle.lists.specs.Lists.{All}
 use Rattle.lists.proofs.BoolLaws.{T-true, not-T-false}
 use Rattle.bisimulation.specs.Systems.{View, WellFormed, flip}
 use Rattle.bisimulation.proofs.ClauseLaws.{flip-formed}
-use Rattle.tables.specs.Table.{statesOf, stepsOf, startOf, headOf, readTable}
-use Rattle.tables.specs.Answers.{refusal, tableAnswer}
-use Rattle.tables.specs.Conditions.{FirstApplies, NoneApplies, tableCauses, EndOutside, EqualsEarlier}
+use Rattle.tables.specs.Table.{statesOf, stepsOf, startOf}
+use Rattle.table_reader.specs.TableReading.{headOf, readTable}
+use Rattle.tables.specs.Answers.{refusal}
+use Rattle.table_reader.specs.TableAnswers.{tableAnswer}
+use Rattle.table_reader.specs.Conditions.{FirstApplies, NoneApplies, tableCauses, EndOutside, EqualsEarlier}
 use Rattle.tables.specs.declared.Answer.{Answer}
-use Rattle.tables.specs.declared.TableRefusal.{TableRefusal}
-use Rattle.tables.specs.declared.TableRead.{TableRead}
-use Rattle.tables.specs.declared.TableRead.the-variants as table
-use Rattle.tables.proofs.ConditionLaws.{refused-first, first-refused, good-none, none-good}
+use Rattle.table_reader.specs.declared.TableRefusal.{TableRefusal}
+use Rattle.table_reader.specs.declared.TableRead.{TableRead}
+use Rattle.table_reader.specs.declared.TableRead.the-variants as table
+use Rattle.table_reader.proofs.ConditionLaws.{refused-first, first-refused, good-none, none-good}
 use Rattle.certificates.specs.Layout.{sizesOf, certificateLength}
-use Rattle.certificates.specs.Certificate.{readRelation}
-use Rattle.certificates.specs.CertificateAnswers.{relationAnswer}
-use Rattle.certificates.specs.CertificateConditions.{relationCauses, relationNumbers, HasWideBit}
+use Rattle.certificate_reader.specs.CertificateReading.{readRelation}
+use Rattle.certificate_reader.specs.CertificateAnswers.{relationAnswer}
+use Rattle.certificate_reader.specs.CertificateConditions.{relationCauses, relationNumbers, HasWideBit}
 use Rattle.certificates.specs.CertificateModel.{AreBytes, viewOf}
-use Rattle.certificates.specs.declared.RelationRefusal.{RelationRefusal}
-use Rattle.certificates.specs.declared.RelationRefusal.the-variants as refused
-use Rattle.certificates.specs.declared.RelationRead.{RelationRead}
-use Rattle.certificates.specs.declared.RelationRead.the-variants as relation
-use Rattle.certificates.proofs.CertificateConditionLaws.{relation-refused-first, first-relation-refused, relation-good-none, relation-none-good, relation-row-first}
+use Rattle.certificate_reader.specs.declared.RelationRefusal.{RelationRefusal}
+use Rattle.certificate_reader.specs.declared.RelationRefusal.the-variants as refused
+use Rattle.certificate_reader.specs.declared.RelationRead.{RelationRead}
+use Rattle.certificate_reader.specs.declared.RelationRead.the-variants as relation
+use Rattle.certificate_reader.proofs.CertificateConditionLaws.{relation-refused-first, first-relation-refused, relation-good-none, relation-none-good, relation-row-first}
 use Rattle.obligations.specs.Judging.{checks, Verdict, accepted, refusedWith}
 use Rattle.checker.specs.Judge.{judgeAnswer}
 use Rattle.checker.proofs.JudgeLaws as judged

@@ -19,16 +19,17 @@ use Rattle.bisimulation.specs.PathProperty.{PathProperty}
 use Rattle.bisimulation.proofs.ClauseLaws.{flip-formed}
 use Rattle.bisimulation.proofs.Equivalences.{succeeds-iff-property, accepted-property}
 use Rattle.bisimulation.proofs.Made.{made-accepted, made-bytes}
-use Rattle.tables.specs.Table.{startOf, headOf}
+use Rattle.tables.specs.Table.{startOf}
+use Rattle.table_reader.specs.TableReading.{headOf}
 use Rattle.tables.specs.Model.{systemOf}
 use Rattle.tables.specs.Answers.{refusal}
 use Rattle.tables.specs.declared.Answer.{Answer}
-use Rattle.tables.proofs.ConditionLaws.{none-good}
-use Rattle.tables.proofs.TableLaws.{table-formed}
+use Rattle.table_reader.proofs.ConditionLaws.{none-good}
+use Rattle.table_reader.proofs.TableLaws.{table-formed}
 use Rattle.certificates.specs.Layout.{sizesOf, certificateLength, rowsPart}
 use Rattle.certificates.specs.CertificateModel.{AreBytes, viewOf, ranksOf}
-use Rattle.certificates.proofs.CertificateConditionLaws.{relation-none-good}
-use Rattle.certificates.proofs.CertificateLaws.{view-plain}
+use Rattle.certificate_reader.proofs.CertificateConditionLaws.{relation-none-good}
+use Rattle.certificates.proofs.ModelLaws.{view-plain}
 use Rattle.obligations.specs.Judging.{Verdict, accepted, refusedWith}
 use Rattle.files.specs.File.{certificateHeader, certificateFile}
 use Rattle.files.proofs.FileLaws.{file-length, file-rows, file-ranks, header-length}

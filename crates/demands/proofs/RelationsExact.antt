@@ -13,15 +13,17 @@ use Rattle.bisimulation.specs.Systems.{View, Ranks, Bytes, WellFormed, flip, sw
 use Rattle.bisimulation.specs.Judge.{accepts}
 use Rattle.bisimulation.specs.Namjoshi.{InitialStatesRelated, SomeRank}
 use Rattle.bisimulation.proofs.NamjoshiTheorems.{accepted-iff-bisimulation}
-use Rattle.tables.specs.Table.{statesOf, stepsOf, headOf}
+use Rattle.tables.specs.Table.{statesOf, stepsOf}
+use Rattle.table_reader.specs.TableReading.{headOf}
 use Rattle.tables.specs.Model.{systemOf}
-use Rattle.tables.proofs.ConditionLaws.{none-good}
-use Rattle.tables.proofs.TableLaws.{table-ok}
+use Rattle.table_reader.proofs.ConditionLaws.{none-good}
+use Rattle.table_reader.proofs.TableLaws.{table-ok}
 use Rattle.certificates.specs.declared.Sizes.{Sizes}
 use Rattle.certificates.specs.Layout.{sizesOf, rowsAt, rowsPart}
 use Rattle.certificates.specs.CertificateModel.{AreBytes, viewOf, ranksOf}
-use Rattle.certificates.proofs.CertificateConditionLaws.{certificate-good-none, certificate-none-good, relation-none-good}
-use Rattle.certificates.proofs.CertificateLaws.{certificate-ok, relation-ok, rows-length, rows-byte, ranks-bytes, view-formed, view-plain}
+use Rattle.certificate_reader.proofs.CertificateConditionLaws.{certificate-good-none, certificate-none-good, relation-none-good}
+use Rattle.certificates.proofs.ModelLaws.{rows-length, rows-byte, ranks-bytes, view-plain}
+use Rattle.certificate_reader.proofs.CertificateLaws.{certificate-ok, relation-ok, view-formed}
 use Rattle.files.specs.File.{certificateFile}
 use Rattle.files.proofs.FileLaws.{FitsHeader, RanksAgree, file-length, file-rows, file-ranks, file-good, file-bytes}
 use Rattle.checker.specs.Judge.{judgeAnswer}

@@ -9,11 +9,12 @@ use Rattle.words.specs.Bits.{hasBit, addBit, hasFrom, countBits, firstBit}
 use Rattle.bisimulation.specs.Judge.{is2a, is2b, is2c}
 use Rattle.bisimulation.specs.Triples.{ahead}
 use Rattle.bisimulation.specs.Maker.{matchesWithin, matched, distance, stutters, chainLength, stutterRank, matchRank}
-use Rattle.tables.specs.Table.{magicFits, versionOf, statesOf, statesFit, startOf, stepsOf, initialOf, tableLength, labelsAt, stepsAt, stepsEnd, labelsPart, stepsPart, labelOf, fromOf, toOf, endsOutside, sameStep, doubled, readSizes, readHeader, readSteps, readTable}
+use Rattle.tables.specs.Table.{magicFits, versionOf, statesOf, startOf, stepsOf, initialOf, tableLength, labelsAt, stepsAt, stepsEnd, labelsPart, stepsPart, labelOf, fromOf, toOf}
+use Rattle.table_reader.specs.TableReading.{statesFit, endsOutside, sameStep, doubled, readSizes, readHeader, readSteps, readTable}
 use Rattle.tables.specs.Model.{systemOf}
 use Rattle.certificates.specs.Layout.{sizesOf, certificateLength, rowsAt, alAt, arAt, clAt, crAt, rowsPart, rowOf}
-use Rattle.certificates.specs.Certificate.{certificateSizesFit, wideRow, readRows, readCertificate, readRelation}
-use Rattle.certificates.specs.Certificate as certificates
+use Rattle.certificate_reader.specs.CertificateReading.{certificateSizesFit, wideRow, readRows, readCertificate, readRelation}
+use Rattle.certificate_reader.specs.CertificateReading as certificates
 use Rattle.certificates.specs.CertificateModel.{relatedIn, viewOf, ranksOf}
 use Rattle.obligations.specs.Obligation.{outcomeOf, isApart, obligationAt}
 use Rattle.obligations.specs.Judging.{joinBelow, stepsFrom, pairChecks, checks, result, verdict, countBy}

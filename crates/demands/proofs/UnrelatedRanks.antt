@@ -17,20 +17,23 @@ use Rattle.lists.proofs.BoolLaws.{and-r}
 use Rattle.lists.proofs.NumberLaws.{big-cong}
 use Rattle.bisimulation.specs.Systems.{System, View, Ranks, flip, swap}
 use Rattle.bisimulation.specs.Judge.{is2a, is2b, is2c, meets2c}
-use Rattle.tables.specs.Table.{statesOf, startOf, magicFits, readTable}
+use Rattle.tables.specs.Table.{statesOf, startOf, magicFits}
+use Rattle.table_reader.specs.TableReading.{readTable}
 use Rattle.tables.specs.declared.Answer.{Answer}
-use Rattle.tables.specs.declared.TableRead.{TableRead}
-use Rattle.tables.specs.declared.TableRead.the-variants as table
+use Rattle.table_reader.specs.declared.TableRead.{TableRead}
+use Rattle.table_reader.specs.declared.TableRead.the-variants as table
 use Rattle.certificates.specs.Layout.{sizesOf, certificateLength, rowsAt, alAt, arAt, clAt, crAt, rowsPart}
-use Rattle.certificates.specs.Certificate.{certificateSizesFit, readHeader, readRows, withRows, readCertificate}
+use Rattle.certificate_reader.specs.CertificateReading.{certificateSizesFit, readHeader, readRows, withRows, readCertificate}
 use Rattle.certificates.specs.CertificateModel.{AreBytes, viewOf, ranksOf}
 use Rattle.certificates.specs.declared.Sizes.{Sizes}
-use Rattle.certificates.specs.declared.CertificateRefusal.{CertificateRefusal}
-use Rattle.certificates.specs.declared.CertificateRefusal.the-variants as refused
-use Rattle.certificates.specs.declared.CertificateRead.{CertificateRead}
-use Rattle.certificates.specs.declared.CertificateRead.the-variants as certificate
-use Rattle.certificates.proofs.CertificateLaws.{certificate-ok, rows-length, rows-byte}
-use Rattle.checker.specs.Judge.{tableThen, certificateThen, pairsIn, verdictAnswer, judged, judgedBytes, judgeAnswer}
+use Rattle.certificate_reader.specs.declared.CertificateRefusal.{CertificateRefusal}
+use Rattle.certificate_reader.specs.declared.CertificateRefusal.the-variants as refused
+use Rattle.certificate_reader.specs.declared.CertificateRead.{CertificateRead}
+use Rattle.certificate_reader.specs.declared.CertificateRead.the-variants as certificate
+use Rattle.certificates.proofs.ModelLaws.{rows-length, rows-byte}
+use Rattle.certificate_reader.proofs.CertificateLaws.{certificate-ok}
+use Rattle.checker.specs.Judge.{certificateThen, pairsIn, verdictAnswer, judged, judgedBytes, judgeAnswer}
+use Rattle.table_reader.specs.TableAnswers.{tableThen}
 use Rattle.demands.specs.Judged.{view, ranks}
 use Rattle.demands.specs.Demand2.{SameWhereRelated}
 use Rattle.obligations.specs.Obligation.{outcomeOf, isApart, obligationAt}

@@ -12,10 +12,10 @@ use Rattle.bisimulation.specs.Clauses.{Meets, Certified}
 use Rattle.bisimulation.specs.Namjoshi.{Bisimulation, InitialStatesRelated, SomeRank}
 use Rattle.bisimulation.specs.Triples.{tripleRank, raised}
 use Rattle.tables.specs.Table.{statesOf, stepsOf}
-use Rattle.tables.specs.Conditions.{NoneApplies, tableCauses}
+use Rattle.table_reader.specs.Conditions.{NoneApplies, tableCauses}
 use Rattle.tables.specs.declared.Answer.{Answer}
 use Rattle.certificates.specs.Layout.{sizesOf, rowsAt, alAt, arAt, clAt, crAt}
-use Rattle.certificates.specs.CertificateConditions.{relationCauses}
+use Rattle.certificate_reader.specs.CertificateConditions.{relationCauses}
 use Rattle.certificates.specs.CertificateModel.{AreBytes, viewOf}
 use Rattle.demands.specs.Judged.{view, ranks, AllWellFormed, Accepted}
 

@@ -11,10 +11,10 @@ use Rattle.lists.specs.Below.{IsFirstBelow, sumBelow, countBelow}
 use Rattle.words.specs.Bits.{countBits}
 use Rattle.bisimulation.specs.Systems.{System, View, Ranks}
 use Rattle.tables.specs.Table.{statesOf, stepsOf, startOf}
-use Rattle.tables.specs.Conditions.{FirstApplies, NoneApplies, tableCauses, EndOutside, EqualsEarlier}
+use Rattle.table_reader.specs.Conditions.{FirstApplies, NoneApplies, tableCauses, EndOutside, EqualsEarlier}
 use Rattle.tables.specs.declared.Answer.{Answer}
 use Rattle.certificates.specs.Layout.{sizesOf, rowsPart, rowOf}
-use Rattle.certificates.specs.CertificateConditions.{certificateCauses, certificateNumbers, HasWideBit}
+use Rattle.certificate_reader.specs.CertificateConditions.{certificateCauses, certificateNumbers, HasWideBit}
 use Rattle.certificates.specs.CertificateModel.{viewOf, ranksOf}
 use Rattle.obligations.specs.Judging.{checks}
 use Rattle.demands.specs.Checks.{Passes, FirstFailure, ByAnswer, ByStutter, ByMatch, Counts}

@@ -11,10 +11,10 @@ use Rattle.bisimulation.specs.Systems.{View, flip}
 use Rattle.bisimulation.specs.Runs.{MatchingRun, StutteringChain}
 use Rattle.tables.specs.Table.{statesOf, stepsOf, startOf}
 use Rattle.tables.specs.Answers.{refusal}
-use Rattle.tables.specs.Conditions.{FirstApplies, NoneApplies, tableCauses, EndOutside, EqualsEarlier}
+use Rattle.table_reader.specs.Conditions.{FirstApplies, NoneApplies, tableCauses, EndOutside, EqualsEarlier}
 use Rattle.tables.specs.declared.Answer.{Answer}
 use Rattle.certificates.specs.Layout.{sizesOf, certificateLength}
-use Rattle.certificates.specs.CertificateConditions.{relationCauses, relationNumbers, HasWideBit}
+use Rattle.certificate_reader.specs.CertificateConditions.{relationCauses, relationNumbers, HasWideBit}
 use Rattle.certificates.specs.CertificateModel.{viewOf}
 use Rattle.obligations.specs.Judging.{Check, labelsOf, leftStep, rightStep, checks}
 use Rattle.demands.specs.Checks.{labelsAnswer, stepAnswer, FirstFailing}

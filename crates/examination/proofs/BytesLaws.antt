@@ -15,16 +15,17 @@ use Rattle.words.specs.Bits.{hasBit}
 use Rattle.bisimulation.specs.Systems.{View, WellFormed, flip}
 use Rattle.bisimulation.specs.Maker.{distance, succeeds}
 use Rattle.tables.specs.declared.Head.{Head}
-use Rattle.tables.specs.declared.TableRead.the-variants as table
-use Rattle.tables.specs.Table.{statesOf, startOf, stepsPart, toOf, readTable}
+use Rattle.table_reader.specs.declared.TableRead.the-variants as table
+use Rattle.tables.specs.Table.{statesOf, startOf, stepsPart, toOf}
+use Rattle.table_reader.specs.TableReading.{readTable}
 use Rattle.tables.specs.Model.{systemOf}
-use Rattle.tables.proofs.TableLaws.{table-ok, table-formed}
+use Rattle.table_reader.proofs.TableLaws.{table-ok, table-formed}
 use Rattle.certificates.specs.declared.Sizes.{Sizes}
-use Rattle.certificates.specs.declared.RelationRead.the-variants as relation
+use Rattle.certificate_reader.specs.declared.RelationRead.the-variants as relation
 use Rattle.certificates.specs.Layout.{sizesOf}
-use Rattle.certificates.specs.Certificate.{readRelation}
+use Rattle.certificate_reader.specs.CertificateReading.{readRelation}
 use Rattle.certificates.specs.CertificateModel.{AreBytes, relatedIn, viewOf}
-use Rattle.certificates.proofs.CertificateLaws.{relation-ok, view-formed}
+use Rattle.certificate_reader.proofs.CertificateLaws.{relation-ok, view-formed}
 use Rattle.obligations.specs.Judging.{checks, Verdict, accepted, refusedWith}
 use Rattle.relations.specs.Relation.{rowWords, columnWords}
 use Rattle.relations.proofs.RelationLaws.{rows-length, rows-related, rows-fit, columns-length, columns-flipped, columns-fit}

@@ -11,17 +11,18 @@ use Rattle.lists.specs.Lists.{tabulate, grid, putFront}
 use Rattle.lists.specs.Numbers.{byteAt, bigEndian, bigBytes}
 use Rattle.lists.proofs.FillLaws.{length-grid, getD-grid, put-front-fits, part-length}
 use Rattle.bisimulation.specs.Systems.{Ranks, Bytes}
-use Rattle.tables.specs.Conditions.{NoneApplies, MagicFits}
+use Rattle.table_reader.specs.Conditions.{NoneApplies, MagicFits}
 use Rattle.certificates.specs.declared.Sizes.{Sizes}
-use Rattle.certificates.specs.declared.CertificateRead.the-variants as read
+use Rattle.certificate_reader.specs.declared.CertificateRead.the-variants as read
 use Rattle.certificates.specs.Layout.{certificateLength, rowsAt, alAt, arAt, clAt, crAt, rowsPart}
-use Rattle.certificates.specs.Certificate.{readCertificate}
-use Rattle.certificates.specs.CertificateConditions.{certificateCauses}
-use Rattle.certificates.specs.CertificateConditions as conditions
+use Rattle.certificate_reader.specs.CertificateReading.{readCertificate}
+use Rattle.certificate_reader.specs.CertificateConditions.{certificateCauses}
+use Rattle.certificate_reader.specs.CertificateConditions as conditions
 use Rattle.certificates.specs.CertificateModel.{AreBytes, ranksOf}
 use Rattle.certificates.proofs.LayoutLaws.{runs-follow, al-inside, ar-inside, cl-inside, cr-inside}
-use Rattle.certificates.proofs.CertificateLaws.{NoWideRow, rows-byte}
-use Rattle.certificates.proofs.CertificateConditionLaws.{certificate-none-good}
+use Rattle.certificates.proofs.ModelLaws.{rows-byte}
+use Rattle.certificate_reader.proofs.CertificateLaws.{NoWideRow}
+use Rattle.certificate_reader.proofs.CertificateConditionLaws.{certificate-none-good}
 use Rattle.files.specs.File.{certificateHeader, certificateFile, certificateIn}
 
 -- ---- lists that are put together

@@ -1,25 +1,15 @@
 // The file of a certificate, written from the maker's tables: the header, the rows, and the four runs of ranks.
 use certificates::Sizes;
 use lists::byte;
+use relations::word;
 use words::Row;
 ghost use mathlib.Core.Path.{_≡_};
 ghost use Prim.Native.Nat.{_*_, _≤_, _<_};
-ghost use lib.ListN.{length, getD};
+ghost use lib.ListN.{length};
 ghost use Rattle.lists.specs.Lists.{tabulate, grid, putFront};
 ghost use Rattle.certificates.specs.Layout.{certificateLength};
 ghost use Rattle.files.specs.File.{certificateHeader, certificateFile};
 ghost use Rattle.files.specs.Writer.{tablesOf, stutterBy, stutterFrom, matchFrom, ranksFrom, fileWritten};
-
-// The states related to s; past the end there are none.
-fn word(words: &[u64], s: usize) -> Row
-    ensures { λ r. ⌜ r .0 ≡ getD (now (words .entry)) s 0 ⌝ }
-{
-    if s < words.len() {
-        Row(words[s])
-    } else {
-        Row::empty()
-    }
-}
 
 // The stutter rank of s and t, where `states` are those related to s.
 fn stutter_rank(states: Row, chains: &[u8], s: usize, t: usize) -> u8

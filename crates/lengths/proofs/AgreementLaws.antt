@@ -13,10 +13,11 @@ use Rattle.bisimulation.specs.Systems.{View}
 use Rattle.bisimulation.specs.Judge.{is2a}
 use Rattle.bisimulation.specs.Maker.{matchesWithin, matched, distance, stutters, chainLength}
 use Rattle.tables.specs.declared.Head.{Head}
-use Rattle.tables.specs.declared.TableRead.the-variants.{Good}
-use Rattle.tables.specs.Table.{statesOf, stepsOf, stepsPart, readTable}
+use Rattle.table_reader.specs.declared.TableRead.the-variants.{Good}
+use Rattle.tables.specs.Table.{statesOf, stepsOf, stepsPart}
+use Rattle.table_reader.specs.TableReading.{readTable}
 use Rattle.tables.specs.Model.{systemOf}
-use Rattle.tables.proofs.TableLaws.{table-ok, steps-length}
+use Rattle.table_reader.proofs.TableLaws.{table-ok, steps-length}
 use Rattle.lengths.specs.Side.{stepCount, wordOf, sideOf, Agrees}
 
 -- chains depend on the own steps and on which of them may stand in a chain

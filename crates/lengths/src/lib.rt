@@ -13,8 +13,8 @@ ghost use Rattle.lengths.specs.OpenSteps.{openSide, isOpen, longest, End
 ghost use Rattle.lengths.specs.Relaxing.{shortens, Bounds, Round};
 
 // A length for each state below 64.
-pub struct Lengths {
-    pub at: [u8; 64],
+struct Lengths {
+    at: [u8; 64],
 }
 
 // The match distances of the own steps: that of step j at t stands at 64 j + t.
@@ -130,7 +130,7 @@ fn relax(related: &[u64], own: &[u8], other: &[u8], n: u8, j: usize, before: Len
 }
 
 // The match distances of the own step j at each state of the other side, which has n states: a row is relaxed until a round changes nothing.
-pub fn step_distances(related: &[u64], own: &[u8], other: &[u8], n: u8, j: usize) -> Lengths
+fn step_distances(related: &[u64], own: &[u8], other: &[u8], n: u8, j: usize) -> Lengths
     ensures { λ r. ⌜ r .at ≡ tabulate 64 (distance (sideOf (now (related .entry)) (now (own .entry)) (now (other .entry)) n) j) ⌝ }
 {
     let mut row = start(related, own, other, n, j);
@@ -243,7 +243,7 @@ fn chain_lengths(steps: &[u8], k: u8) -> Lengths
 }
 
 // The most steps in a chain at t, of at most k, for all own states together, by a table of distances. The other side has n states.
-pub fn chains_at(related: &[u64], own: &[u8], distances: &[u8], n: u8, t: usize, k: u8) -> Lengths
+fn chains_at(related: &[u64], own: &[u8], distances: &[u8], n: u8, t: usize, k: u8) -> Lengths
     ensures { λ r. ⌜ r .at ≡ tabulate 64 (chainBy (now (related .entry)) (now (own .entry)) (now (distances .entry)) n k t) ⌝ }
 {
     let kept = open_steps(related, own, distances, n, t);

@@ -5,23 +5,25 @@ use mathlib.Core.List.{List}
 use native.Mathlib.Omega.{arith}
 use lib.ListN.{length}
 use borrow.Author.Tests.{lt-ltb, le-ltb, ne-eqb}
-use Rattle.tables.specs.Table.{readTable}
-use Rattle.tables.specs.Answers.{refusal, tableAnswer}
+use Rattle.table_reader.specs.TableReading.{readTable}
+use Rattle.tables.specs.Answers.{refusal}
+use Rattle.table_reader.specs.TableAnswers.{tableAnswer}
 use Rattle.tables.specs.declared.Answer.{Answer}
-use Rattle.tables.specs.declared.TableRefusal.{TableRefusal}
-use Rattle.tables.specs.declared.TableRefusal.the-variants.{Short, Magic, Version, States, Start, Steps, Length, StepEnd, Doubled}
+use Rattle.table_reader.specs.declared.TableRefusal.{TableRefusal}
+use Rattle.table_reader.specs.declared.TableRefusal.the-variants.{Short, Magic, Version, States, Start, Steps, Length, StepEnd, Doubled}
 use Rattle.tables.specs.declared.Head.{Head}
-use Rattle.tables.specs.declared.TableRead.{TableRead}
-use Rattle.tables.specs.declared.TableRead.the-variants as table
+use Rattle.table_reader.specs.declared.TableRead.{TableRead}
+use Rattle.table_reader.specs.declared.TableRead.the-variants as table
 use Rattle.certificates.specs.Layout.{sizesOf, certificateLength}
-use Rattle.certificates.specs.Certificate.{readRelation}
-use Rattle.certificates.specs.CertificateAnswers.{relationAnswer}
+use Rattle.certificate_reader.specs.CertificateReading.{readRelation}
+use Rattle.certificate_reader.specs.CertificateAnswers.{relationAnswer}
 use Rattle.certificates.specs.declared.Sizes.{Sizes}
-use Rattle.certificates.specs.declared.RelationRefusal.{RelationRefusal}
-use Rattle.certificates.specs.declared.RelationRefusal.the-variants as refused
-use Rattle.certificates.specs.declared.RelationRead.{RelationRead}
-use Rattle.certificates.specs.declared.RelationRead.the-variants as relation
-use Rattle.checker.specs.Judge.{blank, tableThen}
+use Rattle.certificate_reader.specs.declared.RelationRefusal.{RelationRefusal}
+use Rattle.certificate_reader.specs.declared.RelationRefusal.the-variants as refused
+use Rattle.certificate_reader.specs.declared.RelationRead.{RelationRead}
+use Rattle.certificate_reader.specs.declared.RelationRead.the-variants as relation
+use Rattle.tables.specs.Answers.{blank}
+use Rattle.table_reader.specs.TableAnswers.{tableThen}
 use Rattle.ranking.specs.Make.{relationThen, roomThen, DrawingRead, fileFor, madeAnswer, makeAnswer, outputAfter, makeOutput}
 
 -- ---- no refusal has the code 0

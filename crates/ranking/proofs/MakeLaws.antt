@@ -16,7 +16,7 @@ use Rattle.tables.specs.Table.{statesOf, stepsOf, startOf, stepsPart}
 use Rattle.tables.specs.Model.{systemOf}
 use Rattle.tables.specs.Answers.{refusal}
 use Rattle.tables.specs.declared.Answer.{Answer}
-use Rattle.tables.proofs.TableLaws.{table-ok}
+use Rattle.table_reader.proofs.TableLaws.{table-ok}
 use Rattle.certificates.specs.declared.Sizes.{Sizes}
 use Rattle.certificates.specs.Layout.{sizesOf, certificateLength}
 use Rattle.certificates.specs.CertificateModel.{AreBytes, relatedIn, viewOf}

@@ -9,21 +9,22 @@ use lib.Dec.{ltb, eqb}
 use lib.ListN.{length}
 use Rattle.lists.specs.Lists.{putFront}
 use Rattle.bisimulation.specs.Maker.{made}
-use Rattle.tables.specs.Table.{readTable, startOf}
+use Rattle.tables.specs.Table.{startOf}
+use Rattle.table_reader.specs.TableReading.{readTable}
 use Rattle.tables.specs.Answers.{refusal}
 use Rattle.tables.specs.declared.Answer.{Answer}
 use Rattle.tables.specs.declared.Head.{Head}
-use Rattle.tables.specs.declared.TableRead.the-variants as table
+use Rattle.table_reader.specs.declared.TableRead.the-variants as table
 use Rattle.certificates.specs.Layout.{sizesOf, certificateLength}
-use Rattle.certificates.specs.Certificate.{readRelation}
-use Rattle.certificates.specs.CertificateAnswers.{relationAnswer}
+use Rattle.certificate_reader.specs.CertificateReading.{readRelation}
+use Rattle.certificate_reader.specs.CertificateAnswers.{relationAnswer}
 use Rattle.certificates.specs.CertificateModel.{viewOf}
 use Rattle.certificates.specs.declared.Sizes.{Sizes}
-use Rattle.certificates.specs.declared.RelationRead.{RelationRead}
-use Rattle.certificates.specs.declared.RelationRead.the-variants as relation
+use Rattle.certificate_reader.specs.declared.RelationRead.{RelationRead}
+use Rattle.certificate_reader.specs.declared.RelationRead.the-variants as relation
 use Rattle.obligations.specs.Judging.{Verdict, accepted, refusedWith}
 use Rattle.files.specs.File.{certificateFile}
-use Rattle.checker.specs.Judge.{tableThen}
+use Rattle.table_reader.specs.TableAnswers.{tableThen}
 use Rattle.examination.specs.Examine.{examined}
 
 -- The refusal of a relation, or what follows where it is good.

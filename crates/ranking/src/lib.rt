@@ -1,8 +1,7 @@
 // The maker: for any byte strings and any output its six numbers and every byte of the output. It reads, examines, and only then fills.
-use certificates::RelationRead;
+use certificate_reader::RelationRead;
+use certificate_reader::read_relation;
 use certificates::Sizes;
-use certificates::read_relation;
-use checker::table_answer;
 use examination::Examined;
 use examination::Starts;
 use examination::examine;
@@ -11,9 +10,10 @@ use lengths::all_chains;
 use lengths::all_distances;
 use relations::column_words;
 use relations::row_words;
+use table_reader::TableRead;
+use table_reader::read_table;
+use table_reader::table_answer;
 use tables::Answer;
-use tables::TableRead;
-use tables::read_table;
 use tables::steps;
 ghost use mathlib.Core.Path.{_≡_};
 ghost use Rattle.lists.specs.Lists.{grid};
@@ -24,7 +24,7 @@ ghost use Prim.Native.Nat.{_≤_};
 ghost use lib.ListN.{length};
 ghost use Rattle.tables.specs.Table.{startOf};
 ghost use Rattle.certificates.specs.Layout.{sizesOf, certificateLength};
-ghost use Rattle.checker.specs.Judge.{blank};
+ghost use Rattle.tables.specs.Answers.{blank};
 ghost use Rattle.ranking.specs.Make.{relationThen, DrawingRead, fileFor, madeAnswer, outputAfter, makeAnswer, makeOutput};
 
 // The match distances and the chain lengths of a side: that of step j at t stands at 64 j + t, that at t from s at 64 t + s.

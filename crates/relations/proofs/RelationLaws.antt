@@ -19,7 +19,7 @@ use Rattle.words.specs.Bits.{hasBit, addBit, countBits}
 use Rattle.words.proofs.BitLaws.{has-add-below, has-empty, has-lt, add-word}
 use Rattle.certificates.specs.Layout.{rowOf}
 use Rattle.certificates.specs.CertificateModel.{AreBytes, relatedIn}
-use Rattle.certificates.proofs.CertificateLaws.{row-word}
+use Rattle.certificates.proofs.ModelLaws.{row-word}
 use Rattle.relations.specs.Relation.{rowWord, rowWords, columnWord, columnWords}
 
 -- ---- the rows

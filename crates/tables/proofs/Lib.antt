@@ -1,7 +1,2 @@
--- Laws of tables, for the proofs of this crate and of those above it.
-pub mod DoubledLaws
-pub mod TestLaws
-pub mod CauseLaws
-pub mod RefusalLaws
-pub mod ConditionLaws
-pub mod TableLaws
+-- An example of what the definitions give.
+pub mod ModelExamples

@@ -11,13 +11,13 @@
 // B what the judge says of the certificate that the maker writes, or the maker's refusal;
 // W not six numbers, but an output of one byte more than the certificate, as the maker leaves it, in hexadecimal digits.
 // Before the maker runs, each byte of the output is a5.
-use certificates::CertificateRead;
-use certificates::RelationRead;
+use certificate_reader::CertificateRead;
+use certificate_reader::RelationRead;
 use certificates::Sizes;
 use lists::byte;
 use lists::part_of;
+use table_reader::TableRead;
 use tables::Answer;
-use tables::TableRead;
 ghost use Prim.Native.Nat.{_<_, _≤_};
 ghost use lib.ListN.{length};
 
@@ -80,7 +80,7 @@ fn print_bytes(bytes: &[u8]) {
 // ---- what the readers say
 
 fn show_table(s: &[u8], file: usize) {
-    let read = tables::read_table(s);
+    let read = table_reader::read_table(s);
     match read {
         TableRead::Good(head) => {
             let initial = head.initial;
@@ -92,7 +92,7 @@ fn show_table(s: &[u8], file: usize) {
 
 // Reads the left table, then the right, and shows the first that is refused, or the right one.
 fn show_tables(left: &[u8], right: &[u8]) {
-    let read = tables::read_table(left);
+    let read = table_reader::read_table(left);
     let TableRead::Good(_) = read else {
         show_table(left, 0);
         return;
@@ -101,7 +101,7 @@ fn show_tables(left: &[u8], right: &[u8]) {
 }
 
 fn show_certificate(certificate: &[u8], sizes: Sizes) {
-    let read = certificates::read_certificate(certificate, sizes);
+    let read = certificate_reader::read_certificate(certificate, sizes);
     match read {
         CertificateRead::Good(found) => print_sizes(found),
         CertificateRead::Refused(refusal) => print_answer(refusal.answer(2)),
@@ -109,7 +109,7 @@ fn show_certificate(certificate: &[u8], sizes: Sizes) {
 }
 
 fn show_relation(relation: &[u8], sizes: Sizes) {
-    let read = certificates::read_relation(relation, sizes);
+    let read = certificate_reader::read_relation(relation, sizes);
     match read {
         RelationRead::Good(found) => print_sizes(found),
         RelationRead::Refused(refusal) => print_answer(refusal.answer(2)),

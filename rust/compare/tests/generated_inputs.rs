@@ -5,12 +5,12 @@ use inputs::{all_related, long_chains, long_distances};
 
 #[test]
 fn the_tuned_judge_equals_the_plain_one() {
-    compare::judge(100_000, 1, oracle::tuned::judge).require_all();
+    compare::judge(30_000, 1, oracle::tuned::judge).require_all();
 }
 
 #[test]
 fn the_tuned_maker_equals_the_plain_one() {
-    compare::make(100_000, 2, oracle::tuned_maker::make).require_all();
+    compare::make(30_000, 2, oracle::tuned_maker::make).require_all();
 }
 
 #[test]
@@ -40,7 +40,7 @@ fn the_makers_agree_on_the_fullest_systems() {
 
 #[test]
 fn every_form_of_program_input_is_seen() {
-    compare::program(50_000, 3, oracle::program).require_all();
+    compare::program(20_000, 3, oracle::program).require_all();
 }
 
 #[test]

@@ -1,7 +1,8 @@
 -- `checker::certificate_answer` meets its contract, case by case. Assumes nothing.
 use mathlib.Core.Path.{sym, ap, _∙_}
-use Rattle.certificates.specs.declared.CertificateRead.{CertificateRead}
-use Rattle.checker.specs.Judge.{blank, certificateThen}
+use Rattle.certificate_reader.specs.declared.CertificateRead.{CertificateRead}
+use Rattle.checker.specs.Judge.{certificateThen}
+use Rattle.tables.specs.Answers.{blank}
 use borrow.Author.Needs.{needs}
 use Rattle.checker.proofs.certificate_answer.Statement.{statement}
 use Rattle.checker.proofs.certificate_answer.Tie as tie

@@ -5,12 +5,11 @@ use native.Mathlib.Omega.{arith}
 use denote.Ref.{now}
 use Rattle.words.specs.Bits.{firstBit}
 use Rattle.certificates.specs.declared.Sizes.{Sizes}
-use Rattle.certificates.specs.Certificate.{readCertificate}
-use Rattle.tables.specs.Table.{readTable}
-use Rattle.tables.specs.declared.TableRead.the-variants as table
-use Rattle.tables.proofs.TableLaws.{table-ok}
+use Rattle.certificate_reader.specs.CertificateReading.{readCertificate}
+use Rattle.table_reader.specs.TableReading.{readTable}
+use Rattle.table_reader.specs.declared.TableRead.the-variants as table
+use Rattle.table_reader.proofs.TableLaws.{table-ok, start-first}
 use Rattle.checker.specs.Judge.{AllRead, judgedBytes}
-use Rattle.checker.proofs.BytesLaws.{start-first}
 use Rattle.checker.proofs.JudgeLaws.{left-refused, right-refused, certificate-refused, all-read}
 use borrow.Author.Needs.{needs}
 use Rattle.checker.proofs.judge.Statement.{statement}

@@ -45,7 +45,7 @@ loop-again c =
     let at-word = c .before .before .before .before in
     let at-test = at-word .before in
     let start = at-test .before .before .before .before .before in
-    let row = rw (at-word .word .ensures) at (c .before .before .put-stutter-ranks .ensures) in
+    let row = rw (at-word .word .ensures .0) at (c .before .before .put-stutter-ranks .ensures) in
     (rows-more _ (at-test .before .loop .inv .0) (at-test .loop-test .taken) (start .pre .2) row, omega arith)
 
 same-length : tie.Need-same-length Inv-loop μ-loop

@@ -6,8 +6,8 @@ use lib.ListN.{length}
 use denote.Ref.{now}
 use Rattle.certificates.specs.declared.Sizes.{Sizes}
 use Rattle.certificates.specs.Layout.{certificateLength}
-use Rattle.certificates.specs.Certificate.{readRelation}
-use Rattle.checker.proofs.BytesLaws.{start-first}
+use Rattle.certificate_reader.specs.CertificateReading.{readRelation}
+use Rattle.table_reader.proofs.TableLaws.{start-first}
 use Rattle.ranking.specs.Make.{DrawingRead}
 use Rattle.ranking.proofs.MakeAnswers.{left-refused, right-refused, relation-refused, too-short, room-answer, room-output}
 use borrow.Author.Needs.{needs}

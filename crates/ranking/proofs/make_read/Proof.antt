@@ -11,7 +11,7 @@ use Rattle.tables.specs.Answers.{refusal}
 use Rattle.certificates.specs.declared.Sizes.{Sizes}
 use Rattle.certificates.specs.Layout.{certificateLength}
 use Rattle.certificates.specs.CertificateModel.{AreBytes}
-use Rattle.certificates.proofs.CertificateLaws.{relation-ok}
+use Rattle.certificate_reader.proofs.CertificateLaws.{relation-ok}
 use Rattle.relations.proofs.RelationLaws.{rows-length, columns-length}
 use Rattle.files.proofs.WriterLaws.{written-front}
 use Rattle.examination.proofs.VerdictLaws.{was-accepted, was-refused}

@@ -1,7 +1,7 @@
 -- `ranking::relation_answer` meets its contract, case by case. Assumes nothing.
 use mathlib.Core.Path.{sym, ap, _∙_}
-use Rattle.certificates.specs.declared.RelationRead.{RelationRead}
-use Rattle.checker.specs.Judge.{blank}
+use Rattle.certificate_reader.specs.declared.RelationRead.{RelationRead}
+use Rattle.tables.specs.Answers.{blank}
 use Rattle.ranking.specs.Make.{relationThen}
 use borrow.Author.Needs.{needs}
 use Rattle.ranking.proofs.relation_answer.Statement.{statement}

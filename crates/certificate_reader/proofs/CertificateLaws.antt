@@ -1,0 +1,89 @@
+-- What good reads say: of a certificate and of a relation their length and that no row has a bit n2 or more; of two tables and rows that the theory's
+-- view is well formed. Assumes nothing.
+use Prim.Native.Nat.{ℕ, _*_, _≤_, _<_}
+use mathlib.Core.Path.{_≡_}
+use mathlib.Core.Bool.{Bool, true}
+use mathlib.Core.List.{List}
+use native.Mathlib.Omega.{arith}
+use native.Mathlib.Decide.{decLt}
+use lib.Dec.{T}
+use lib.ListN.{length}
+use Rattle.words.proofs.BitLaws.{has-lt}
+use Rattle.bisimulation.specs.Systems.{SideFormed, WellFormed}
+use Rattle.tables.specs.declared.Head.{Head}
+use Rattle.tables.specs.Table.{statesOf}
+use Rattle.tables.specs.Model.{systemOf}
+use Rattle.table_reader.specs.declared.TableRead.the-variants as table
+use Rattle.table_reader.specs.TableReading.{readTable}
+use Rattle.table_reader.proofs.TestLaws.{decides-stable, eqb-decides}
+use Rattle.table_reader.proofs.TableLaws.{table-ok, TableFormed, table-formed}
+use Rattle.certificates.specs.declared.Sizes.{Sizes}
+use Rattle.certificates.specs.Layout.{sizesOf, certificateLength, rowsPart, rowOf}
+use Rattle.certificates.specs.CertificateModel.{AreBytes, relatedIn, viewOf}
+use Rattle.certificates.proofs.LayoutLaws.{length-limit}
+use Rattle.certificates.proofs.ModelLaws.{related-left, related-bit, row-word}
+use Rattle.certificate_reader.specs.declared.CertificateRead.the-variants as read
+use Rattle.certificate_reader.specs.declared.RelationRead.the-variants as drawn
+use Rattle.certificate_reader.specs.CertificateReading.{readCertificate, readRelation}
+use Rattle.certificate_reader.specs.CertificateConditions.{HasWideBit}
+use Rattle.certificate_reader.proofs.CertificateConditionLaws.{certificate-good-none, relation-good-none}
+
+-- ---- a certificate and a relation
+
+-- None of n1 rows has a bit n2 or more.
+abbrev pub NoWideRow : List ℕ → ℕ → ℕ → Type 0
+NoWideRow rows n1 n2 = (s : ℕ) → s < n1 → HasWideBit rows n2 s → ⊥
+
+pub record CertificateOk (z : Sizes) (c : List ℕ) : Type 0 where
+  pub long : length c ≡ certificateLength z
+  pub narrow : NoWideRow (rowsPart c z) (z .n1) (z .n2)
+
+pub certificate-ok : (z : Sizes) (c : List ℕ) {y : Sizes} → readCertificate z c ≡ read.Good y → (y ≡ z) × CertificateOk z c
+certificate-ok z c e =
+    let g = certificate-good-none z c e in
+    (g .0, record { long = decides-stable (eqb-decides (length c) (certificateLength z)) (g .1 4); narrow = λ s l w. g .1 5 (s, l, w) })
+
+pub record RelationOk (z : Sizes) (r : List ℕ) : Type 0 where
+  pub long : length r ≡ 8 * z .n1
+  pub narrow : NoWideRow r (z .n1) (z .n2)
+
+pub relation-ok : (z : Sizes) (r : List ℕ) {y : Sizes} → readRelation z r ≡ drawn.Good y → (y ≡ z) × RelationOk z r
+relation-ok z r e =
+    let g = relation-good-none z r e in
+    (g .0, record { long = decides-stable (eqb-decides (length r) (8 * z .n1)) (g .1 0); narrow = λ s l w. g .1 1 (s, l, w) })
+
+-- a certificate of two tables that are read has at most 41,483 bytes
+pub certificate-limit : (left right : List ℕ) {h k : Head} → readTable left ≡ table.Good h → readTable right ≡ table.Good k
+    → certificateLength (sizesOf left right) ≤ 41483
+unfolding sizesOf
+certificate-limit left right l r =
+    let a = table-ok left l in
+    let b = table-ok right r in
+    length-limit (sizesOf left right) (a .states-le) (b .states-le) (a .steps-le) (b .steps-le)
+
+-- in rows of which none is wide, a related right state is below n2
+pub related-right : (rows : List ℕ) (n1 : ℕ) {n2 : ℕ} (s t : ℕ) → AreBytes rows → NoWideRow rows n1 n2 → T (relatedIn rows n1 s t) → t < n2
+related-right rows n1 {n2} s t bytes narrow h = elim (decLt t n2) [
+  | yes p ↦ p
+  | no p ↦
+      let b = related-bit rows n1 s t h in
+      absurd (narrow s (related-left rows n1 s t h) (t, has-lt (rowOf rows s) t (row-word rows s bytes) b, omega arith, b))
+]
+
+-- ---- the theory's view and ranks
+
+-- a side whose table is read, and whose related states are states
+side-formed : (s other : List ℕ) (related : ℕ → ℕ → Bool) → TableFormed s → ((x y : ℕ) → T (related x y) → x < statesOf s)
+    → SideFormed (record { own = systemOf s; other = systemOf other; related = related; answers = λ j k. true })
+unfolding systemOf
+side-formed s other related f r = record { from< = f .from<; to< = f .to<; related< = r; initial< = f .initial<; quiet = λ j k a b. tt }
+
+module _ (left right rows : List ℕ) where
+  pub view-formed : {h k : Head} → readTable left ≡ table.Good h → readTable right ≡ table.Good k → AreBytes rows
+      → NoWideRow rows (statesOf left) (statesOf right) → WellFormed (viewOf left right rows)
+  unfolding viewOf
+  view-formed l r bytes narrow =
+      record {
+        here = side-formed left right _ (table-formed left l) (λ s t. related-left rows (statesOf left) s t);
+        there = side-formed right left _ (table-formed right r) (λ t s. related-right rows (statesOf left) s t bytes narrow);
+      }

@@ -1,0 +1,3 @@
+pub mod CertificateReading
+pub mod CertificateAnswers
+pub mod CertificateConditions

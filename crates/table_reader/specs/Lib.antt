@@ -1,0 +1,3 @@
+pub mod TableReading
+pub mod TableAnswers
+pub mod Conditions
