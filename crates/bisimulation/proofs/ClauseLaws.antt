@@ -2,40 +2,16 @@
 use Prim.Native.Nat.{ℕ, _<_}
 use mathlib.Core.Path.{_≡_, refl}
 use mathlib.Core.Logic.{_↔_, _⊎_, inl, inr, ⊎-elim}
-use mathlib.Core.Bool.{Bool, true, false}
+use mathlib.Core.Bool.{Bool, _||_}
 use lib.Dec.{T, eqb, eqb→eq, ltb→lt, lt→ltb}
 use Rattle.lists.proofs.BelowLaws.{any-e, any-i, all-e, all-i}
-use Rattle.lists.proofs.BoolLaws.{and-l, and-r, and-i, imp-i, imp-e, eq→eqb}
+use Rattle.lists.proofs.BoolLaws.{and-l, and-r, and-i, or-e, or-l, or-r, imp-i, imp-e, eq→eqb}
 use Rattle.bisimulation.specs.Clauses.{Meets2a, Meets2b, Meets2c, Meets, EveryObligation, Certified}
-use Rattle.bisimulation.specs.Judge.{is2a, is2b, is2c, firstOf, outcome, isMet, allPairs, allStepsFrom, initialRelated, labelsEqual, obligationsMet, accepts}
+use Rattle.bisimulation.specs.Judge.{is2a, is2b, is2c, isMet, allPairs, allStepsFrom, initialRelated, labelsEqual, obligationsMet, accepts}
 use Rattle.bisimulation.specs.Systems.{View, flip, Ranks, swap, WellFormed, InitialRelated, LabelsEqual}
 
 pub flip-formed : (v : View) → WellFormed v → WellFormed (flip v)
 flip-formed v w = record { here = w .there; there = w .here }
-
--- the first of three
-met-cases : (a b c : Bool) → T (isMet (firstOf a b c)) → T a ⊎ ((T a → ⊥) × (T b ⊎ T c))
-met-cases true b c h = inl tt
-met-cases false true c h = inr (λ z. z, inl tt)
-met-cases false false true h = inr (λ z. z, inr tt)
-met-cases false false false h = absurd h
-
-met-a : (a b c : Bool) → T a → T (isMet (firstOf a b c))
-met-a true true c h = tt
-met-a true false c h = tt
-met-a false b c h = absurd h
-
-met-b : (a b c : Bool) → T b → T (isMet (firstOf a b c))
-met-b true true c h = tt
-met-b false true c h = tt
-met-b a false c h = absurd h
-
-met-c : (a b c : Bool) → T c → T (isMet (firstOf a b c))
-met-c true true c h = tt
-met-c true false c h = tt
-met-c false true c h = tt
-met-c false false true h = tt
-met-c false false false h = absurd h
 
 module _ (v : View) where
   open View v using (own, other, related, answers)
@@ -95,18 +71,18 @@ module _ (v : View) where
     unfolding is2c
     is2c-i j t q = any-i _ _ (q .0) (q .1) (search (and-i, eq→eqb, lt→ltb))
 
-    -- the first clause that holds is met just where one holds
-    pub met-e : (j t : ℕ) → T (isMet (outcome v r j t)) → Meets v r j t
-    unfolding outcome
+    -- the obligation is met just where one of the clauses holds
+    pub met-e : (j t : ℕ) → T (isMet v r j t) → Meets v r j t
+    unfolding isMet
     met-e j t h =
-        ⊎-elim (λ a. inl (is2a-e j t a)) (λ a. inr (⊎-elim (λ b. inl (is2b-e j t b)) (λ b. inr (is2c-e j t b)) (a .1)))
-        (met-cases (is2a v j t) (is2b v r j t) (is2c v r j t) h)
+        ⊎-elim (λ h. ⊎-elim (λ a. inl (is2a-e j t a)) (λ b. inr (inl (is2b-e j t b))) (or-e (is2a v j t) (is2b v r j t) h)) (λ c. inr (inr (is2c-e j t c)))
+        (or-e (is2a v j t || is2b v r j t) (is2c v r j t) h)
 
-    pub met-i : (j t : ℕ) → Meets v r j t → T (isMet (outcome v r j t))
-    unfolding outcome
-    met-i j t (inl a) = met-a (is2a v j t) _ _ (is2a-i j t a)
-    met-i j t (inr (inl a)) = met-b (is2a v j t) (is2b v r j t) _ (is2b-i j t a)
-    met-i j t (inr (inr a)) = met-c (is2a v j t) (is2b v r j t) (is2c v r j t) (is2c-i j t a)
+    pub met-i : (j t : ℕ) → Meets v r j t → T (isMet v r j t)
+    unfolding isMet
+    met-i j t (inl a) = or-l (is2a v j t || is2b v r j t) (is2c v r j t) (or-l (is2a v j t) (is2b v r j t) (is2a-i j t a))
+    met-i j t (inr (inl b)) = or-l (is2a v j t || is2b v r j t) (is2c v r j t) (or-r (is2a v j t) (is2b v r j t) (is2b-i j t b))
+    met-i j t (inr (inr c)) = or-r (is2a v j t || is2b v r j t) (is2c v r j t) (is2c-i j t c)
 
 -- every obligation of the side is met by one of the clauses just where the judge finds it so
 module _ (v : View) (w : WellFormed v) (r : Ranks) where

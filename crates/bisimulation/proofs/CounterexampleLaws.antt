@@ -12,7 +12,7 @@ use lib.Dec.{T, eqb→eq}
 use lib.ListN.{getD}
 use Rattle.lists.specs.Below.{anyBelow, allBelow, firstBelow, mostBelow}
 use Rattle.bisimulation.specs.Counterexample.{twoStates, twoRows, twoTwo}
-use Rattle.bisimulation.specs.Judge.{is2a, is2b, is2c, outcome, allPairs, allStepsFrom, initialRelated, labelsEqual, obligationsMet, accepts}
+use Rattle.bisimulation.specs.Judge.{is2a, is2b, is2c, isMet, allPairs, allStepsFrom, initialRelated, labelsEqual, obligationsMet, accepts}
 use Rattle.bisimulation.specs.Maker.{matchesWithin, matched, distance, stutters, chainLength, stutterRank, matchRank, made, noneUnmatched, noneEndless, succeeds}
 use Rattle.bisimulation.specs.Namjoshi.{joint, Related, Bisimulation}
 use Rattle.bisimulation.specs.Systems.{Step, WellFormed, Plain}
@@ -21,7 +21,7 @@ use Rattle.bisimulation.proofs.NamjoshiTheorems.{accepted-bisimulation}
 
 -- document 01's judge accepts
 pub two-accepted : accepts twoTwo (made twoTwo) ≡ true
-unfolding accepts initialRelated labelsEqual obligationsMet allPairs allStepsFrom outcome is2a is2b is2c stutterRank matchRank distance matched stutters chainLength matchesWithin anyBelow allBelow mostBelow firstBelow twoStates twoRows twoTwo
+unfolding accepts initialRelated labelsEqual obligationsMet allPairs allStepsFrom isMet is2a is2b is2c stutterRank matchRank distance matched stutters chainLength matchesWithin anyBelow allBelow mostBelow firstBelow twoStates twoRows twoTwo
 two-accepted = refl
 
 -- the maker succeeds, so a judge with the paper's 2c would refuse what the maker writes here

@@ -5,7 +5,7 @@
 -- which bounds the block by that side's number of states. Stated for one side, from the obligations of both. Assumes nothing.
 use Prim.Native.Nat.{ℕ, zero, suc, _+_, _≤_, _<_, zero-le}
 use mathlib.Core.Path.{_≡_, refl, ap}
-use mathlib.Core.Logic.{⊎-elim}
+use mathlib.Core.Logic.{inl, inr, ⊎-elim}
 use mathlib.Core.Bool.{Bool, true, false, _&&_, not, cond}
 use mathlib.Core.List.{List, [], _∷_, flatten}
 use native.Mathlib.Nat.{not-suc-le-zero, le-refl}
@@ -16,12 +16,12 @@ use Rattle.lists.specs.Below.{anyBelow, firstBelow}
 use Rattle.lists.proofs.BelowLaws.{any-e, any-i, first-le, first-at}
 use Rattle.lists.proofs.BoolLaws.{and-l, and-r, and-i, eq→eqb}
 use Rattle.bisimulation.specs.Clauses.{Meets, EveryObligation}
-use Rattle.bisimulation.specs.Judge.{meets2a, meets2c, is2a, is2b, is2c, Outcome, by2a, by2b, by2c, failed, firstOf, outcome, isMet, accepts}
+use Rattle.bisimulation.specs.Judge.{meets2a, meets2c, is2a, is2b, is2c, accepts}
 use Rattle.bisimulation.specs.Matcher.{smallestEntered, smallestStep, moves, nothing, enter, grow, push, choose, matchSteps, movesNeeded, matchPath}
 use Rattle.bisimulation.specs.StepPaths.{StepPath, Cut, Fits, StepPathProperty}
 use Rattle.bisimulation.specs.Systems.{System, Terminal, View, flip, Ranks, swap, WellFormed}
 use Rattle.bisimulation.proofs.BlockLaws.{Fitted, fitted-fits}
-use Rattle.bisimulation.proofs.ClauseLaws.{flip-formed, is2a-i, is2b-e, is2c-e, met-i, accepts-iff}
+use Rattle.bisimulation.proofs.ClauseLaws.{flip-formed, is2a-i, is2b-i, is2c-i, is2b-e, is2c-e, accepts-iff}
 use Rattle.bisimulation.proofs.RankLaws.{lower, lower-falls, lower-bound}
 
 -- the step picked is one, and passes
@@ -46,20 +46,6 @@ moves-not-terminal S s h d = let r = any-e _ _ h in d (r .0) (r .1) (eqb→eq _ 
 cond-cases : (P : Cut → Type 0) (b : Bool) (x y : Cut) → (T b → P x) → ((T b → ⊥) → P y) → P (cond b x y)
 cond-cases P true x y f g = f tt
 cond-cases P false x y f g = g (λ z. z)
-
--- what each outcome tells
-abbrev Told : Bool → Bool → Bool → Outcome → Type 0
-Told a b c by2a = T a
-Told a b c by2b = (T a → ⊥) × T b
-Told a b c by2c = (T a → ⊥) × T c
-Told a b c failed = Unit {0}
-
-tell : (a b c : Bool) → Told a b c (firstOf a b c)
-tell true true c = tt
-tell true false c = tt
-tell false true c = (λ z. z, tt)
-tell false false true = (λ z. z, tt)
-tell false false false = tt
 
 -- the four ways to go on
 module _ (v : View) (w : WellFormed v) where
@@ -105,15 +91,14 @@ module _ (v : View) (r : Ranks) (w : WellFormed v) (D : EveryObligation Meets v 
   open View v using (own, other, related, answers)
 
   cases : (P : Cut → Type 0) (j t : ℕ) (x y z : Cut) → j < own .steps → T (related (own .from j) t) → (T (is2a v j t) → P x) → ((T (is2a v j t) → ⊥) → T (is2b v r j t) → P y)
-      → ((T (is2a v j t) → ⊥) → T (is2c v r j t) → P z) → P (choose (outcome v r j t) x y z)
-  unfolding outcome
-  cases P j t x y z l h f g k = go (outcome v r j t) (met-i v r j t (D j t l h)) (tell (is2a v j t) (is2b v r j t) (is2c v r j t))
+      → ((T (is2a v j t) → ⊥) → T (is2c v r j t) → P z) → P (choose (is2a v j t) (is2b v r j t) (is2c v r j t) x y z)
+  cases P j t x y z l h f g k =
+      cond-cases P (is2a v j t) _ _ f (λ na. cond-cases P (is2b v r j t) _ _ (g na) (λ nb. cond-cases P (is2c v r j t) _ _ (k na) (λ nc. absurd (none na nb nc (D j t l h)))))
     where
-      go : (o : Outcome) → T (isMet o) → Told (is2a v j t) (is2b v r j t) (is2c v r j t) o → P (choose o x y z)
-      go by2a m a = f a
-      go by2b m a = g (a .0) (a .1)
-      go by2c m a = k (a .0) (a .1)
-      go failed m a = absurd m
+      none : (T (is2a v j t) → ⊥) → (T (is2b v r j t) → ⊥) → (T (is2c v r j t) → ⊥) → Meets v r j t → ⊥
+      none na nb nc (inl a) = na (is2a-i v j t a)
+      none na nb nc (inr (inl b)) = nb (is2b-i v r j t b)
+      none na nb nc (inr (inr c)) = nc (is2c-i v r j t c)
 
   -- no silent step leaves t for a state related to s
   abbrev Shut : ℕ → ℕ → Type 0

@@ -1,7 +1,7 @@
--- The judge's tests: the clauses 2a, 2b and 2c at an obligation, the first that holds, and what is accepted. The test of a step is a parameter of the view.
+-- The judge's tests: the clauses 2a, 2b and 2c at an obligation, and what is accepted. The test of a step is a parameter of the view.
 -- An obligation, document 01's duty, is an own step j with a state t of the other side that is related to the state j leaves.
 use Prim.Native.Nat.{ℕ}
-use mathlib.Core.Bool.{Bool, true, false, _&&_}
+use mathlib.Core.Bool.{Bool, _&&_, _||_}
 use lib.Dec.{ltb, eqb}
 use Rattle.lists.specs.Below.{anyBelow, allBelow, implies}
 use Rattle.bisimulation.specs.Systems.{View, Ranks, flip, swap}
@@ -26,24 +26,9 @@ is2b v r j t = v .own .silent j && v .related (v .own .to j) t && ltb (r .stutte
 unfoldable pub is2c : View → Ranks → ℕ → ℕ → Bool
 is2c v r j t = anyBelow (v .other .steps) (meets2c v r j t)
 
-pub data Outcome : Type 0 where
-  by2a by2b by2c failed : Outcome
-
--- The first clause that holds.
-abbrev pub firstOf : Bool → Bool → Bool → Outcome
-firstOf true b c = by2a
-firstOf false true c = by2b
-firstOf false false true = by2c
-firstOf false false false = failed
-
-unfoldable pub outcome : View → Ranks → ℕ → ℕ → Outcome
-outcome v r j t = firstOf (is2a v j t) (is2b v r j t) (is2c v r j t)
-
-abbrev pub isMet : Outcome → Bool
-isMet by2a = true
-isMet by2b = true
-isMet by2c = true
-isMet failed = false
+-- The obligation is met: one of the three holds.
+unfoldable pub isMet : View → Ranks → ℕ → ℕ → Bool
+isMet v r j t = is2a v j t || is2b v r j t || is2c v r j t
 
 -- Every related pair passes the test.
 unfoldable pub allPairs : View → (ℕ → ℕ → Bool) → Bool
@@ -64,7 +49,7 @@ labelsEqual v = allPairs v (λ s t. eqb (v .own .label s) (v .other .label t))
 
 -- Every obligation of the own side is met.
 unfoldable pub obligationsMet : View → Ranks → Bool
-obligationsMet v r = allPairs v (λ s t. allStepsFrom v s (λ j. isMet (outcome v r j t)))
+obligationsMet v r = allPairs v (λ s t. allStepsFrom v s (λ j. isMet v r j t))
 
 -- The judge accepts the ranks: initial states related, labels equal, and the obligations of both sides met.
 unfoldable pub accepts : View → Ranks → Bool

@@ -6,7 +6,7 @@ use mathlib.Core.List.{List, [], _∷_}
 use lib.Dec.{eqb}
 use Rattle.lists.specs.Below.{anyBelow, firstBelow}
 use Rattle.bisimulation.specs.Systems.{System, View, Ranks}
-use Rattle.bisimulation.specs.Judge.{Outcome, by2a, by2b, by2c, failed, meets2a, meets2c, outcome}
+use Rattle.bisimulation.specs.Judge.{meets2a, meets2c, is2a, is2b, is2c}
 use Rattle.bisimulation.specs.StepPaths.{Cut}
 
 -- The smallest state that a passing step enters.
@@ -37,11 +37,9 @@ grow j x = record { first = j ∷ x .first; later = x .later; first′ = x .firs
 abbrev pub push : ℕ → Cut → Cut
 push k x = record { first = x .first; later = x .later; first′ = k ∷ x .first′; later′ = x .later′ }
 
-abbrev pub choose : Outcome → Cut → Cut → Cut → Cut
-choose by2a x y z = x
-choose by2b x y z = y
-choose by2c x y z = z
-choose failed x y z = nothing
+-- Of three cuts the one of the first test that passes, and nothing where none does.
+abbrev pub choose : Bool → Bool → Bool → Cut → Cut → Cut → Cut
+choose a b c x y z = cond a x (cond b y (cond c z nothing))
 
 -- At most N moves, from s with the steps J to go, facing t.
 unfoldable pub matchSteps : View → Ranks → ℕ → ℕ → List ℕ → ℕ → Cut
@@ -52,7 +50,7 @@ matchSteps v r (suc N) s [] t =
 matchSteps v r (suc N) s (j ∷ J) t =
     let k = smallestStep (v .other) (meets2a v j t) in
     let e = smallestStep (v .other) (meets2c v r j t) in
-    choose (outcome v r j t)
+    choose (is2a v j t) (is2b v r j t) (is2c v r j t)
     (enter j k (matchSteps v r N (v .own .to j) J (v .other .to k)))
     (grow j (matchSteps v r N (v .own .to j) J t))
     (push e (matchSteps v r N s (j ∷ J) (v .other .to e)))

@@ -27,6 +27,7 @@ use Rattle.certificates.proofs.ModelLaws.{rows-bytes}
 use Rattle.certificate_reader.proofs.CertificateLaws.{certificate-ok, view-formed}
 use Rattle.relations.specs.Relation.{rowWords, columnWords}
 use Rattle.relations.proofs.RelationLaws.{rows-has, columns-related, rows-ones}
+use Rattle.obligations.specs.CheckAnswers.{startsAnswer, labelsAnswer}
 use Rattle.obligations.specs.Judging.{verdict, joinBelow, leftStep, rightStep, pairChecks, checks, Result, result, stepsFrom, labelsOf, passes, stops}
 use Rattle.checker.specs.Progress.{none, progress, endAnswer}
 use Rattle.checker.specs.Judge.{pairsIn, verdictAnswer, judged, judgedBytes}
@@ -153,7 +154,7 @@ module _ (left right c : List ℕ) {h k : Head} {y : Sizes} (gl : readTable left
     unfolding checksAt pairChecks result leftChecks rightChecks
     pair-is s t hs ht =
         ap₂ (λ (x : Result) (l : List Result). x ∷ l)
-        (ap₂ (λ (x z : ℕ). cond (eqb x z) passes (stops (record { code = 17; file = 2; a = s; b = t; c = 0; d = 0 }))) (label-left s hs) (label-right t ht))
+        (ap₂ (λ (x z : ℕ). cond (eqb x z) passes (stops (labelsAnswer s t))) (label-left s hs) (label-right t ht))
         (ap₂ _++_
         (side-checks view ranks (stepsPart left) ours _ c (leftRun sizes) _ (sees-left s t hs ht) ∙ sym (map-steps view ranks (view .own) s (leftStep s t)))
         (side-checks (flip view) (swap ranks) (stepsPart right) theirs _ c (rightRun sizes) _ (sees-right s t hs ht) ∙ sym (map-steps view ranks (view .other) t (rightStep s t)))
@@ -203,7 +204,7 @@ module _ (left right c : List ℕ) {h k : Head} {y : Sizes} (gl : readTable left
     start-related = ap (λ (r : List ℕ). hasBit (rowOf r s) t) rows-are ∙ sym (ap (λ (b : Bool). b && hasBit (rowOf rows s) t) (lt-ltb s (statesOf left) hs))
 
     -- 16
-    pub starts-unrelated : hasBit (rowOf rows′ s) t ≡ false → record { code = 16; file = 2; a = s; b = t; c = 0; d = 0 } ≡ judgedBytes left right c s t
+    pub starts-unrelated : hasBit (rowOf rows′ s) t ≡ false → startsAnswer s t ≡ judgedBytes left right c s t
     unfolding judgedBytes judged
     starts-unrelated e = sym (rw (sym start-related ∙ e))
 

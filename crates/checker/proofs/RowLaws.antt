@@ -16,6 +16,7 @@ use Rattle.words.proofs.BitLaws as bits
 use Rattle.tables.specs.declared.Answer.{Answer}
 use Rattle.certificates.specs.declared.Sizes.{Sizes}
 use Rattle.certificates.specs.Layout.{alAt, arAt, clAt, crAt}
+use Rattle.obligations.specs.CheckAnswers.{labelsAnswer}
 use Rattle.obligations.specs.Judging.{joinBelow, Result}
 use Rattle.checker.specs.declared.Tally.{Tally}
 use Rattle.checker.specs.declared.Progress.{Progress}
@@ -53,7 +54,7 @@ module _ (left right ours theirs certificate : List ℕ) (z : Sizes) where
 
   module _ (s t : ℕ) (y : Tally) where
     pub labels-differ : (getD ours (192 + s) 0 ≡ getD theirs (192 + t) 0 → ⊥)
-        → progress (checksAt left right ours theirs certificate z s t) y ≡ Stop (record { code = 17; file = 2; a = s; b = t; c = 0; d = 0 })
+        → progress (checksAt left right ours theirs certificate z s t) y ≡ Stop (labelsAnswer s t)
     unfolding checksAt progress
     labels-differ h = rw (ne-eqb _ _ h)
 

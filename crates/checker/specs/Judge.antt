@@ -20,6 +20,7 @@ use Rattle.certificates.specs.CertificateModel.{viewOf, ranksOf}
 use Rattle.certificates.specs.declared.Sizes.{Sizes}
 use Rattle.certificate_reader.specs.declared.CertificateRead.{CertificateRead}
 use Rattle.certificate_reader.specs.declared.CertificateRead.the-variants as certificate
+use Rattle.obligations.specs.CheckAnswers.{startsAnswer}
 use Rattle.obligations.specs.Judging.{checks, Verdict, accepted, refusedWith, verdict, countBy}
 use Rattle.obligations.specs.declared.Clause.the-variants.{Answer as Answered, Stutter as Stuttered, Match as Matched}
 
@@ -50,7 +51,7 @@ verdictAnswer v r pairs (refusedWith answer) = answer
 -- 16 where the starts are unrelated, then the verdict.
 unfoldable pub judged : View → Ranks → ℕ → ℕ → ℕ → Answer
 judged v r pairs left right =
-    cond (v .related left right) (verdictAnswer v r pairs (verdict v r (checks v))) (record { code = 16; file = 2; a = left; b = right; c = 0; d = 0 })
+    cond (v .related left right) (verdictAnswer v r pairs (verdict v r (checks v))) (startsAnswer left right)
 
 -- The same for the view and the ranks that the bytes give.
 unfoldable pub judgedBytes : List ℕ → List ℕ → List ℕ → ℕ → ℕ → Answer

@@ -18,6 +18,7 @@ use Rattle.obligations.specs.declared.Facing.{Facing}
 use Rattle.obligations.specs.declared.Outcome.{Outcome}
 use Rattle.obligations.specs.declared.Cause.{Cause}
 use Rattle.obligations.specs.Obligation.{causeNumber, obligationOf}
+use Rattle.obligations.specs.CheckAnswers.{labelsAnswer, stepAnswer}
 use Rattle.obligations.specs.Judging.{joinBelow, Result, passes, stops, stepResult}
 use Rattle.checker.specs.declared.Run.{Run}
 use Rattle.checker.specs.declared.Place.{Place}
@@ -104,7 +105,7 @@ pub record Within (run : Run) (place : Place) : Type 0 where
 
 -- The answer where the obligation of own step j fails at the place.
 abbrev pub failedAt : Place → ℕ → Cause → Answer
-failedAt place j cause = record { code = causeNumber cause; file = 2; a = place .side; b = leftState place; c = rightState place; d = j }
+failedAt place j cause = stepAnswer (causeNumber cause) (place .side) (leftState place) (rightState place) j
 
 -- The A rank of the own state s at the place's other state.
 unfoldable pub rankAt : List ℕ → Run → Place → ℕ → ℕ
@@ -134,7 +135,7 @@ module _ (steps plan : List ℕ) (ahead : ℕ) (certificate : List ℕ) (run : R
 module _ (left right ours theirs certificate : List ℕ) (z : Sizes) where
   -- The result of the labels of a pair.
   abbrev pub labelCheck : ℕ → ℕ → Result
-  labelCheck s t = cond (eqb (getD ours (192 + s) 0) (getD theirs (192 + t) 0)) passes (stops (record { code = 17; file = 2; a = s; b = t; c = 0; d = 0 }))
+  labelCheck s t = cond (eqb (getD ours (192 + s) 0) (getD theirs (192 + t) 0)) passes (stops (labelsAnswer s t))
 
   unfoldable pub leftChecks : ℕ → ℕ → List Result
   leftChecks s t = stepChecks left ours (getD theirs (64 + t) 0) certificate (leftRun z) (record { side = 0; own = s; other = t })

@@ -22,7 +22,8 @@ use Rattle.obligations.specs.Judging.{Check, labelsOf, leftStep, rightStep, Res
 use Rattle.obligations.specs.declared.Clause.{Clause}
 use Rattle.obligations.specs.declared.Clause.the-variants.{Answer as Answered, Stutter as Stuttered, Match as Matched}
 use Rattle.obligations.proofs.JudgingLaws.{goes, Goes, step-i, step-e, label-i, label-e, FirstStop, refused-first-stop}
-use Rattle.demands.specs.Checks.{Apart, labelsAnswer, stepAnswer, Unmet, Passes, Fails, FirstFailure, ByAnswer, ByStutter, ByMatch, Counts}
+use Rattle.obligations.specs.CheckAnswers.{labelsAnswer, stepAnswer}
+use Rattle.demands.specs.Checks.{Apart, Unmet, Passes, Fails, FirstFailure, ByAnswer, ByStutter, ByMatch, Counts}
 
 -- ---- a check goes on exactly where it passes
 

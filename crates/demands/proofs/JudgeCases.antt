@@ -15,7 +15,6 @@ use Rattle.table_reader.specs.Conditions.{NoneApplies, tableCauses}
 use Rattle.tables.specs.declared.Answer.{Answer}
 use Rattle.tables.specs.declared.Head.{Head}
 use Rattle.table_reader.specs.declared.TableRefusal.{TableRefusal}
-use Rattle.table_reader.specs.declared.TableRefusal.the-variants.{Short, Magic, Version, States, Start, Steps, Length, StepEnd, Doubled}
 use Rattle.table_reader.specs.declared.TableRead.{TableRead}
 use Rattle.table_reader.specs.declared.TableRead.the-variants as table
 use Rattle.table_reader.proofs.ConditionLaws.{good-none, none-good}
@@ -29,30 +28,16 @@ use Rattle.certificate_reader.specs.declared.CertificateRefusal.the-variants as
 use Rattle.certificate_reader.specs.declared.CertificateRead.{CertificateRead}
 use Rattle.certificate_reader.specs.declared.CertificateRead.the-variants as certificate
 use Rattle.certificate_reader.proofs.CertificateConditionLaws.{certificate-good-none, certificate-none-good}
+use Rattle.obligations.specs.CheckAnswers.{startsAnswer}
 use Rattle.obligations.specs.Judging.{Check, labelsOf, leftStep, rightStep, checks, Verdict, accepted, refusedWith, verdict}
 use Rattle.checker.specs.Judge.{pairsIn, verdictAnswer, judged, judgedBytes, judgeAnswer}
 use Rattle.checker.proofs.JudgeLaws.{left-answer, right-answer, certificate-answer, all-read}
 use Rattle.demands.specs.Checks.{Unmet, Fails, FirstFailure}
 use Rattle.demands.specs.Judged.{view, ranks, AllWellFormed, StartsRelated}
+use Rattle.demands.proofs.TableRefusals.{Numbers, numbers-of}
 use Rattle.demands.proofs.CheckLaws.{refused-first-failure}
 
 -- ---- the numbers of refusals
-
-pub record Numbers (low high file : ℕ) (a : Answer) : Type 0 where
-  pub least : low ≤ a .code
-  pub most : a .code ≤ high
-  pub of-file : a .file ≡ file
-
-pub table-numbers : (r : TableRefusal) (file : ℕ) → Numbers 1 9 file (tableAnswer r file)
-table-numbers Short file = record { least = omega arith; most = omega arith; of-file = refl }
-table-numbers Magic file = record { least = omega arith; most = omega arith; of-file = refl }
-table-numbers Version file = record { least = omega arith; most = omega arith; of-file = refl }
-table-numbers States file = record { least = omega arith; most = omega arith; of-file = refl }
-table-numbers Start file = record { least = omega arith; most = omega arith; of-file = refl }
-table-numbers Steps file = record { least = omega arith; most = omega arith; of-file = refl }
-table-numbers Length file = record { least = omega arith; most = omega arith; of-file = refl }
-table-numbers (StepEnd j) file = record { least = omega arith; most = omega arith; of-file = refl }
-table-numbers (Doubled j) file = record { least = omega arith; most = omega arith; of-file = refl }
 
 pub certificate-numbers : (r : CertificateRefusal) → Numbers 10 15 2 (certificateAnswer r 2)
 certificate-numbers refused.Short = record { least = omega arith; most = omega arith; of-file = refl }
@@ -61,9 +46,6 @@ certificate-numbers refused.Version = record { least = omega arith; most = omega
 certificate-numbers refused.Sizes = record { least = omega arith; most = omega arith; of-file = refl }
 certificate-numbers refused.Length = record { least = omega arith; most = omega arith; of-file = refl }
 certificate-numbers (refused.RowBit s) = record { least = omega arith; most = omega arith; of-file = refl }
-
-numbers-of : {low high file : ℕ} {a b : Answer} → b ≡ a → Numbers low high file a → Numbers low high file b
-numbers-of {low} {high} {file} e n = subst (Numbers low high file) (sym e) n
 
 unmet-numbers : (v : View) (r : Ranks) (j t side left right : ℕ) (a : Answer) → Unmet v r j t side left right a → Numbers 17 19 2 a
 unmet-numbers v r j t side left right a (m, inl p) = numbers-of (p .1) (record { least = omega arith; most = omega arith; of-file = refl })
@@ -85,7 +67,7 @@ module _ (left right c : List ℕ) where
     by-right : (r : TableRefusal) → NoneApplies (tableCauses left) → readTable right ≡ table.Refused r → judgeAnswer left right c ≡ tableAnswer r 1 → Case
     by-certificate : (r : CertificateRefusal) → NoneApplies (tableCauses left) → NoneApplies (tableCauses right) → readCertificate (sizesOf left right) c ≡ certificate.Refused r
         → judgeAnswer left right c ≡ certificateAnswer r 2 → Case
-    by-starts : AllWellFormed left right c → (¬ StartsRelated left right c) → judgeAnswer left right c ≡ record { code = 16; file = 2; a = startOf left; b = startOf right; c = 0; d = 0 } → Case
+    by-starts : AllWellFormed left right c → (¬ StartsRelated left right c) → judgeAnswer left right c ≡ startsAnswer (startOf left) (startOf right) → Case
     by-check : (x : Answer) → AllWellFormed left right c → StartsRelated left right c → verdict (view left right c) (ranks left right c) (checks (view left right c)) ≡ refusedWith x
         → judgeAnswer left right c ≡ x → Case
     by-none : AllWellFormed left right c → StartsRelated left right c → verdict (view left right c) (ranks left right c) (checks (view left right c)) ≡ accepted

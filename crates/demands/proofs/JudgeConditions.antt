@@ -10,15 +10,15 @@ use lib.ListN.{getD}
 use Rattle.lists.specs.Below.{IsFirstBelow}
 use Rattle.lists.specs.Lists.{All}
 use Rattle.lists.proofs.BoolLaws.{T-true, not-T-false}
-use Rattle.tables.specs.Table.{statesOf, stepsOf, startOf}
+use Rattle.tables.specs.Table.{statesOf, startOf}
 use Rattle.table_reader.specs.TableReading.{readTable}
 use Rattle.table_reader.specs.TableAnswers.{tableAnswer}
-use Rattle.table_reader.specs.Conditions.{FirstApplies, NoneApplies, tableCauses, EndOutside, EqualsEarlier}
+use Rattle.table_reader.specs.Conditions.{FirstApplies, NoneApplies, tableCauses}
 use Rattle.tables.specs.declared.Answer.{Answer}
+use Rattle.tables.specs.declared.Head.{Head}
 use Rattle.table_reader.specs.declared.TableRefusal.{TableRefusal}
-use Rattle.table_reader.specs.declared.TableRefusal.the-variants.{Short, Magic, Version, States, Start, Steps, Length, StepEnd, Doubled}
 use Rattle.table_reader.specs.declared.TableRead.the-variants as table
-use Rattle.table_reader.proofs.ConditionLaws.{refused-first, first-refused, none-good, end-outside-first, doubled-first}
+use Rattle.table_reader.proofs.ConditionLaws.{none-good}
 use Rattle.certificates.specs.Layout.{sizesOf, rowsPart}
 use Rattle.certificate_reader.specs.CertificateReading.{readCertificate}
 use Rattle.certificate_reader.specs.CertificateAnswers.{certificateAnswer}
@@ -27,55 +27,19 @@ use Rattle.certificate_reader.specs.declared.CertificateRefusal.{CertificateRef
 use Rattle.certificate_reader.specs.declared.CertificateRefusal.the-variants as refused
 use Rattle.certificate_reader.specs.declared.CertificateRead.the-variants as certificate
 use Rattle.certificate_reader.proofs.CertificateConditionLaws.{certificate-refused-first, first-certificate-refused, certificate-none-good, certificate-row-first}
+use Rattle.obligations.specs.CheckAnswers.{startsAnswer}
 use Rattle.obligations.specs.Judging.{checks, accepted, refusedWith, verdict}
 use Rattle.obligations.proofs.JudgingLaws.{verdict-i, verdict-e}
 use Rattle.checker.specs.Judge.{pairsIn, verdictAnswer, judged, judgedBytes, judgeAnswer}
 use Rattle.checker.proofs.JudgeLaws.{left-answer, right-answer, certificate-answer}
 use Rattle.demands.specs.Checks.{Passes, FirstFailure}
+use Rattle.demands.specs.TablesRefused.{StepsNamed}
 use Rattle.demands.specs.Judged.{view, ranks, AllWellFormed, StartsRelated, JudgeNumber, AnswersByConditions, NamesFirst}
 use Rattle.demands.proofs.CheckLaws.{goes-passes, passes-goes, all-map, refused-first-failure, first-failure-refused}
-use Rattle.demands.proofs.JudgeCases.{Numbers, table-numbers, certificate-numbers, failure-numbers, Case, by-left, by-right, by-certificate, by-starts, by-check, by-none, formed-answer, cases}
+use Rattle.demands.proofs.TableRefusals.{Numbers, table-numbers, Unnamed, table-unnamed, Beyond, good-not-refused, tables-by-conditions, tables-named}
+use Rattle.demands.proofs.JudgeCases.{certificate-numbers, failure-numbers, Case, by-left, by-right, by-certificate, by-starts, by-check, by-none, formed-answer, cases}
 
 -- ---- what a refusal names
-
-module _ (s : List ℕ) (file : ℕ) where
-  outside-named : (r : TableRefusal) → readTable s ≡ table.Refused r → tableAnswer r file .code ≡ 8 → IsFirstBelow (stepsOf s) (EndOutside s) (tableAnswer r file .a)
-  outside-named Short e k = absurd (omega arith)
-  outside-named Magic e k = absurd (omega arith)
-  outside-named Version e k = absurd (omega arith)
-  outside-named States e k = absurd (omega arith)
-  outside-named Start e k = absurd (omega arith)
-  outside-named Steps e k = absurd (omega arith)
-  outside-named Length e k = absurd (omega arith)
-  outside-named (StepEnd j) e k = end-outside-first s e
-  outside-named (Doubled j) e k = absurd (omega arith)
-
-  doubled-named : (r : TableRefusal) → readTable s ≡ table.Refused r → tableAnswer r file .code ≡ 9 → IsFirstBelow (stepsOf s) (EqualsEarlier s) (tableAnswer r file .a)
-  doubled-named Short e k = absurd (omega arith)
-  doubled-named Magic e k = absurd (omega arith)
-  doubled-named Version e k = absurd (omega arith)
-  doubled-named States e k = absurd (omega arith)
-  doubled-named Start e k = absurd (omega arith)
-  doubled-named Steps e k = absurd (omega arith)
-  doubled-named Length e k = absurd (omega arith)
-  doubled-named (StepEnd j) e k = absurd (omega arith)
-  doubled-named (Doubled j) e k = doubled-first s e
-
--- Nothing but a is named, and a only above a bound.
-pub record Unnamed (bound : ℕ) (a : Answer) : Type 0 where
-  pub low : a .code ≤ bound → a .a ≡ 0
-  pub others : (a .b ≡ 0) × (a .c ≡ 0) × (a .d ≡ 0)
-
-pub table-unnamed : (r : TableRefusal) (file : ℕ) → Unnamed 7 (tableAnswer r file)
-table-unnamed Short file = record { low = λ l. refl; others = (refl, refl, refl) }
-table-unnamed Magic file = record { low = λ l. refl; others = (refl, refl, refl) }
-table-unnamed Version file = record { low = λ l. refl; others = (refl, refl, refl) }
-table-unnamed States file = record { low = λ l. refl; others = (refl, refl, refl) }
-table-unnamed Start file = record { low = λ l. refl; others = (refl, refl, refl) }
-table-unnamed Steps file = record { low = λ l. refl; others = (refl, refl, refl) }
-table-unnamed Length file = record { low = λ l. refl; others = (refl, refl, refl) }
-table-unnamed (StepEnd j) file = record { low = λ l. absurd (omega arith); others = (refl, refl, refl) }
-table-unnamed (Doubled j) file = record { low = λ l. absurd (omega arith); others = (refl, refl, refl) }
 
 row-named : (left right c : List ℕ) (r : CertificateRefusal) → readCertificate (sizesOf left right) c ≡ certificate.Refused r → certificateAnswer r 2 .code ≡ 15
     → IsFirstBelow (statesOf left) (HasWideBit (rowsPart c (sizesOf left right)) (statesOf right)) (certificateAnswer r 2 .a)
@@ -111,21 +75,6 @@ module _ (left right c : List ℕ) where
 
   -- ---- each number from its condition
 
-  left-i : {k : ℕ} → FirstApplies (tableCauses left) k → (A .code ≡ k) × (A .file ≡ 0) × (0 < k)
-  left-i {k} f =
-      let q = first-refused left f in
-      let e = left-answer left right c (q .1) in
-      let n = by-table (q .0) 0 e in
-      let k = ap (λ (a : Answer). a .code) e ∙ q .2 0 in
-      let m = n .least in
-      (k, n .of-file, omega arith)
-
-  right-i : {k : ℕ} → NoneApplies (tableCauses left) → FirstApplies (tableCauses right) k → (A .code ≡ k) × (A .file ≡ 1)
-  right-i g f =
-      let q = first-refused right f in
-      let e = right-answer left right c (none-good left g) (q .1) in
-      (ap (λ (a : Answer). a .code) e ∙ q .2 1, by-table (q .0) 1 e .of-file)
-
   certificate-i : {k i : ℕ} → NoneApplies (tableCauses left) → NoneApplies (tableCauses right) → FirstApplies (certificateCauses (sizesOf left right) c) i → getD certificateNumbers i 0 ≡ k
       → (A .code ≡ k) × (10 ≤ k) × (k ≤ 15)
   certificate-i {k} g h f p =
@@ -137,7 +86,7 @@ module _ (left right c : List ℕ) where
       let m = n .most in
       (d, omega arith, omega arith)
 
-  starts-i : AllWellFormed left right c → (¬ StartsRelated left right c) → A ≡ record { code = 16; file = 2; a = startOf left; b = startOf right; c = 0; d = 0 }
+  starts-i : AllWellFormed left right c → (¬ StartsRelated left right c) → A ≡ startsAnswer (startOf left) (startOf right)
   unfolding judgedBytes judged
   starts-i w h = formed-answer left right c w ∙ rw (not-T-false (view left right c .related (startOf left) (startOf right)) h)
 
@@ -162,22 +111,6 @@ module _ (left right c : List ℕ) where
 
   file-of : {x : Answer} → A ≡ x → A .file ≡ x .file
   file-of e = ap (λ (a : Answer). a .file) e
-
-  left-e : (k : ℕ) → A .code ≡ k → A .file ≡ 0 → 0 < k → Case left right c → FirstApplies (tableCauses left) k
-  left-e k p q l (by-left r s e) = subst (FirstApplies (tableCauses left)) (sym (code-of e) ∙ p) (refused-first left s 0)
-  left-e k p q l (by-right r g s e) = absurd (let n = by-table r 1 e .of-file in omega arith)
-  left-e k p q l (by-certificate r g h s e) = absurd (let n = by-file r e .of-file in omega arith)
-  left-e k p q l (by-starts w h e) = absurd (let n = file-of e in omega arith)
-  left-e k p q l (by-check x w h s e) = absurd (let n = by-failure s e .of-file in omega arith)
-  left-e k p q l (by-none w h s e) = absurd (let n = code-of e in omega arith)
-
-  right-e : (k : ℕ) → A .code ≡ k → A .file ≡ 1 → Case left right c → NoneApplies (tableCauses left) × FirstApplies (tableCauses right) k
-  right-e k p q (by-left r s e) = absurd (let n = by-table r 0 e .of-file in omega arith)
-  right-e k p q (by-right r g s e) = (g, subst (FirstApplies (tableCauses right)) (sym (code-of e) ∙ p) (refused-first right s 1))
-  right-e k p q (by-certificate r g h s e) = absurd (let n = by-file r e .of-file in omega arith)
-  right-e k p q (by-starts w h e) = absurd (let n = file-of e in omega arith)
-  right-e k p q (by-check x w h s e) = absurd (let n = by-failure s e .of-file in omega arith)
-  right-e k p q (by-none w h s e) = absurd (let n = file-of e in omega arith)
 
   certificate-e : (k : ℕ) → A .code ≡ k → 10 ≤ k → k ≤ 15 → Case left right c
       → NoneApplies (tableCauses left) × NoneApplies (tableCauses right) × ((i : ℕ) × FirstApplies (certificateCauses (sizesOf left right) c) i × (getD certificateNumbers i 0 ≡ k))
@@ -226,13 +159,21 @@ module _ (left right c : List ℕ) where
   number-of (by-check x w h s e) = let n = by-failure s e in let l = n .least in inr (inr (omega arith, n .most, n .of-file))
   number-of (by-none w h s e) = inl (code-of e, file-of e)
 
+  -- where both tables are read, the number is none of a table
+  beyond : {h k : Head} → readTable left ≡ table.Good h → readTable right ≡ table.Good k → Case left right c → Beyond A
+  beyond p q (by-left r s e) = absurd (good-not-refused p s)
+  beyond p q (by-right r g s e) = absurd (good-not-refused q s)
+  beyond p q (by-certificate r g h s e) = inr (let n = by-file r e .of-file in omega arith)
+  beyond p q (by-starts w h e) = inr (let n = file-of e in omega arith)
+  beyond p q (by-check x w h s e) = inr (let n = by-failure s e .of-file in omega arith)
+  beyond p q (by-none w h s e) = inl (code-of e, file-of e)
+
   -- the judge answers by the conditions alone
   pub judge-by-conditions : AnswersByConditions left right c (judgeAnswer left right c)
   judge-by-conditions =
       record {
         one-number = number-of (cases left right c);
-        left-table = λ k. (left-i, λ p. left-e k (p .0) (p .1) (p .2) (cases left right c));
-        right-table = λ k. (λ p. right-i (p .0) (p .1), λ p. right-e k (p .0) (p .1) (cases left right c));
+        tables = tables-by-conditions left right A (λ r. left-answer left right c) (λ h r. right-answer left right c) (λ h k p q. beyond p q (cases left right c));
         certificate = λ k. (λ p. certificate-i (p .0) (p .1) (p .2 .1) (p .2 .2), λ p. certificate-e k (p .0) (p .1) (p .2) (cases left right c));
         starts = (λ p. code-of (starts-i (p .0) (p .1)), λ p. starts-e p (cases left right c));
         checked = λ k. (
@@ -242,13 +183,13 @@ module _ (left right c : List ℕ) where
         accepted = (λ p. none-i (p .0) (p .1) (p .2), λ p. let q = accepted-case p in (q .0, q .1, all-map (goes-passes (view left right c) (ranks left right c)) (checks (view left right c)) (verdict-e (view left right c) (ranks left right c) (checks (view left right c)) (q .2))));
       }
 
+  named : StepsNamed left right A
+  named = tables-named left right A (λ r. left-answer left right c) (λ h r. right-answer left right c) (λ h k p q. beyond p q (cases left right c))
+
   names : Case left right c → NamesFirst left right c (judgeAnswer left right c)
   names (by-left r s e) =
       record {
-        left-outside = λ p q. subst (λ (a : Answer). IsFirstBelow (stepsOf left) (EndOutside left) (a .a)) (sym e) (outside-named left 0 r s (sym (code-of e) ∙ p));
-        right-outside = λ p q. absurd (let n = by-table r 0 e .of-file in omega arith);
-        left-doubled = λ p q. subst (λ (a : Answer). IsFirstBelow (stepsOf left) (EqualsEarlier left) (a .a)) (sym e) (doubled-named left 0 r s (sym (code-of e) ∙ p));
-        right-doubled = λ p q. absurd (let n = by-table r 0 e .of-file in omega arith);
+        steps-named = named;
         wide-row = λ p. absurd (let n = by-table r 0 e .most in omega arith);
         starts-named = λ p. absurd (let n = by-table r 0 e .most in omega arith);
         check-named = λ p q. absurd (let n = by-table r 0 e .most in omega arith);
@@ -257,10 +198,7 @@ module _ (left right c : List ℕ) where
       }
   names (by-right r g s e) =
       record {
-        left-outside = λ p q. absurd (let n = by-table r 1 e .of-file in omega arith);
-        right-outside = λ p q. subst (λ (a : Answer). IsFirstBelow (stepsOf right) (EndOutside right) (a .a)) (sym e) (outside-named right 1 r s (sym (code-of e) ∙ p));
-        left-doubled = λ p q. absurd (let n = by-table r 1 e .of-file in omega arith);
-        right-doubled = λ p q. subst (λ (a : Answer). IsFirstBelow (stepsOf right) (EqualsEarlier right) (a .a)) (sym e) (doubled-named right 1 r s (sym (code-of e) ∙ p));
+        steps-named = named;
         wide-row = λ p. absurd (let n = by-table r 1 e .most in omega arith);
         starts-named = λ p. absurd (let n = by-table r 1 e .most in omega arith);
         check-named = λ p q. absurd (let n = by-table r 1 e .most in omega arith);
@@ -269,10 +207,7 @@ module _ (left right c : List ℕ) where
       }
   names (by-certificate r g h s e) =
       record {
-        left-outside = λ p q. absurd (let n = by-file r e in let x = n .least in let y = n .most in omega arith);
-        right-outside = λ p q. absurd (let n = by-file r e in let x = n .least in let y = n .most in omega arith);
-        left-doubled = λ p q. absurd (let n = by-file r e in let x = n .least in let y = n .most in omega arith);
-        right-doubled = λ p q. absurd (let n = by-file r e in let x = n .least in let y = n .most in omega arith);
+        steps-named = named;
         wide-row = λ p. subst (λ (a : Answer). IsFirstBelow (statesOf left) (HasWideBit (rowsPart c (sizesOf left right)) (statesOf right)) (a .a)) (sym e) (row-named left right c r s (sym (code-of e) ∙ p));
         starts-named = λ p. absurd (let n = by-file r e in let x = n .least in let y = n .most in omega arith);
         check-named = λ p q. absurd (let n = by-file r e in let x = n .least in let y = n .most in omega arith);
@@ -281,10 +216,7 @@ module _ (left right c : List ℕ) where
       }
   names (by-starts w h e) =
       record {
-        left-outside = λ p q. absurd (let n = code-of e in omega arith);
-        right-outside = λ p q. absurd (let n = code-of e in omega arith);
-        left-doubled = λ p q. absurd (let n = code-of e in omega arith);
-        right-doubled = λ p q. absurd (let n = code-of e in omega arith);
+        steps-named = named;
         wide-row = λ p. absurd (let n = code-of e in omega arith);
         starts-named = λ p. e;
         check-named = λ p q. absurd (let n = code-of e in omega arith);
@@ -293,10 +225,7 @@ module _ (left right c : List ℕ) where
       }
   names (by-check x w h s e) =
       record {
-        left-outside = λ p q. absurd (let n = by-failure s e in let x = n .least in let y = n .most in omega arith);
-        right-outside = λ p q. absurd (let n = by-failure s e in let x = n .least in let y = n .most in omega arith);
-        left-doubled = λ p q. absurd (let n = by-failure s e in let x = n .least in let y = n .most in omega arith);
-        right-doubled = λ p q. absurd (let n = by-failure s e in let x = n .least in let y = n .most in omega arith);
+        steps-named = named;
         wide-row = λ p. absurd (let n = by-failure s e in let x = n .least in let y = n .most in omega arith);
         starts-named = λ p. absurd (let n = by-failure s e in let x = n .least in let y = n .most in omega arith);
         check-named = λ p q. refused-first-failure (view left right c) (ranks left right c) (checks (view left right c)) A (s ∙ ap refusedWith (sym e));
@@ -305,10 +234,7 @@ module _ (left right c : List ℕ) where
       }
   names (by-none w h s e) =
       record {
-        left-outside = λ p q. absurd (let n = code-of e in omega arith);
-        right-outside = λ p q. absurd (let n = code-of e in omega arith);
-        left-doubled = λ p q. absurd (let n = code-of e in omega arith);
-        right-doubled = λ p q. absurd (let n = code-of e in omega arith);
+        steps-named = named;
         wide-row = λ p. absurd (let n = code-of e in omega arith);
         starts-named = λ p. absurd (let n = code-of e in omega arith);
         check-named = λ p q. absurd (let n = code-of e in omega arith);

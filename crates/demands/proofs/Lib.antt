@@ -1,6 +1,7 @@
 -- The theorems, and the laws that they stand on.
 pub mod CheckLaws
 pub mod CountLaws
+pub mod TableRefusals
 pub mod JudgeCases
 pub mod JudgeConditions
 pub mod JudgeExact

@@ -18,10 +18,11 @@ use Rattle.bisimulation.proofs.RunLaws.{matched-iff, chain-some, chain-most, ch
 use Rattle.tables.specs.declared.Answer.{Answer}
 use Rattle.obligations.specs.Judging.{Check, labelsOf, leftStep, rightStep, Result, passes, metBy, stops, Verdict, accepted, refusedWith, andThen}
 use Rattle.obligations.proofs.JudgingLaws.{goes}
-use Rattle.examination.specs.Examine.{firstStop, answered, resultBy, makerResult, endlessAt, chainAnswer, firstChain, endless}
+use Rattle.examination.specs.Examine.{firstStop, answered, resultBy, makerResult, endlessAt, firstChain, endless}
 use Rattle.examination.proofs.VerdictLaws.{of-accepted}
 use Rattle.examination.proofs.RefusalLaws.{FirstStop, FirstEndless, test-accepted}
-use Rattle.demands.specs.Checks.{labelsAnswer, stepAnswer, FirstFailing}
+use Rattle.obligations.specs.CheckAnswers.{stepAnswer, chainAnswer}
+use Rattle.demands.specs.Checks.{FirstFailing}
 use Rattle.demands.specs.Made.{Matched, Stays, Lost, Clears, Refuses, LongChain, SomeLongChain, FirstLongChain}
 use Rattle.demands.proofs.CheckLaws.{all-map}
 

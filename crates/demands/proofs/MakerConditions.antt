@@ -3,7 +3,7 @@
 use Prim.Native.Nat.{ℕ, _≤_, _<_}
 use mathlib.Core.Path.{_≡_, refl, sym, ap, _∙_, subst}
 use mathlib.Core.Logic.{_↔_, _⊎_, inl, inr, ⊎-elim}
-use mathlib.Core.List.{List, [], map}
+use mathlib.Core.List.{List, map}
 use native.Mathlib.Decide.{decLt}
 use native.Mathlib.Omega.{arith}
 use lib.Dec.{T}
@@ -13,16 +13,17 @@ use Rattle.lists.specs.Lists.{All}
 use Rattle.lists.proofs.BoolLaws.{T-true, not-T-false}
 use Rattle.bisimulation.specs.Systems.{View, WellFormed, flip}
 use Rattle.bisimulation.proofs.ClauseLaws.{flip-formed}
-use Rattle.tables.specs.Table.{statesOf, stepsOf, startOf}
+use Rattle.tables.specs.Table.{statesOf, startOf}
 use Rattle.table_reader.specs.TableReading.{headOf, readTable}
 use Rattle.tables.specs.Answers.{refusal}
 use Rattle.table_reader.specs.TableAnswers.{tableAnswer}
-use Rattle.table_reader.specs.Conditions.{FirstApplies, NoneApplies, tableCauses, EndOutside, EqualsEarlier}
+use Rattle.table_reader.specs.Conditions.{FirstApplies, NoneApplies, tableCauses}
 use Rattle.tables.specs.declared.Answer.{Answer}
+use Rattle.tables.specs.declared.Head.{Head}
 use Rattle.table_reader.specs.declared.TableRefusal.{TableRefusal}
 use Rattle.table_reader.specs.declared.TableRead.{TableRead}
 use Rattle.table_reader.specs.declared.TableRead.the-variants as table
-use Rattle.table_reader.proofs.ConditionLaws.{refused-first, first-refused, good-none, none-good}
+use Rattle.table_reader.proofs.ConditionLaws.{good-none, none-good}
 use Rattle.certificates.specs.Layout.{sizesOf, certificateLength}
 use Rattle.certificate_reader.specs.CertificateReading.{readRelation}
 use Rattle.certificate_reader.specs.CertificateAnswers.{relationAnswer}
@@ -34,9 +35,8 @@ use Rattle.certificate_reader.specs.declared.RelationRead.{RelationRead}
 use Rattle.certificate_reader.specs.declared.RelationRead.the-variants as relation
 use Rattle.certificate_reader.proofs.CertificateConditionLaws.{relation-refused-first, first-relation-refused, relation-good-none, relation-none-good, relation-row-first}
 use Rattle.obligations.specs.Judging.{checks, Verdict, accepted, refusedWith}
-use Rattle.checker.specs.Judge.{judgeAnswer}
-use Rattle.checker.proofs.JudgeLaws as judged
-use Rattle.examination.specs.Examine.{followedBy, firstStop, startsAnswer, makerResult, endless, startsVerdict, examined}
+use Rattle.obligations.specs.CheckAnswers.{startsAnswer}
+use Rattle.examination.specs.Examine.{followedBy, firstStop, makerResult, endless, startsVerdict, examined}
 use Rattle.examination.proofs.VerdictLaws.{both-accepted}
 use Rattle.examination.proofs.ExamineLaws.{if-accepted}
 use Rattle.examination.proofs.RefusalLaws.{FirstStop, Refused, by-starts as starts-refuse, by-check as check-refuses, by-left-chain as left-chain-refuses, by-right-chain as right-chain-refuses, examined-refused, accepted-all-go}
@@ -47,8 +47,7 @@ use Rattle.demands.specs.Checks.{FirstFailing}
 use Rattle.demands.specs.Demand2.{Drawn}
 use Rattle.demands.specs.Made.{Clears, Refuses, SomeLongChain, FirstLongChain, NamesChain, MakerNumber, Ready, StartsDrawn, Cleared, MakesByConditions, MakerNamesFirst}
 use Rattle.demands.proofs.CheckLaws.{all-map}
-use Rattle.demands.proofs.JudgeCases.{Numbers, table-numbers}
-use Rattle.demands.proofs.JudgeConditions.{Unnamed, table-unnamed, judge-names-first}
+use Rattle.demands.proofs.TableRefusals.{Numbers, table-numbers, Unnamed, table-unnamed, Beyond, good-not-refused, tables-by-conditions, tables-named}
 use Rattle.demands.proofs.RelationsExact.{drawn-formed, drawn-read}
 use Rattle.demands.proofs.MakerChecks.{goes-clears, stop-failing, failing-stop, clears-none, refuses-numbers, first-chain, no-chain}
 
@@ -169,21 +168,6 @@ module _ (left right drawing output : List ℕ) (bytes : AreBytes drawing) where
 
   -- ---- each number from its condition
 
-  left-i : {k : ℕ} → FirstApplies (tableCauses left) k → (A .code ≡ k) × (A .file ≡ 0) × (0 < k)
-  left-i {k} f =
-      let q = first-refused left f in
-      let e = left-answer left right drawing output (q .1) in
-      let n = by-table (q .0) 0 e in
-      let d = code-of e ∙ q .2 0 in
-      let m = n .least in
-      (d, n .of-file, omega arith)
-
-  right-i : {k : ℕ} → NoneApplies (tableCauses left) → FirstApplies (tableCauses right) k → (A .code ≡ k) × (A .file ≡ 1)
-  right-i g f =
-      let q = first-refused right f in
-      let e = right-answer left right drawing output (none-good left g) (q .1) in
-      (code-of e ∙ q .2 1, by-table (q .0) 1 e .of-file)
-
   relation-i : {k i : ℕ} → NoneApplies (tableCauses left) → NoneApplies (tableCauses right) → FirstApplies (relationCauses (sizesOf left right) drawing) i → getD relationNumbers i 0 ≡ k
       → (A .code ≡ k) × ((k ≡ 20) ⊎ (k ≡ 15))
   relation-i {k} g h f p =
@@ -221,26 +205,6 @@ module _ (left right drawing output : List ℕ) (bytes : AreBytes drawing) where
   some-chain x = ⊎-elim (λ f. inl (f .fixed, f .first, f .fixed<, f .first<, f .long)) (λ p. let f = p .1 in inr (f .fixed, f .first, f .fixed<, f .first<, f .long))
 
   -- ---- each condition from its number: in every other case the number is another
-
-  left-e : (k : ℕ) → A .code ≡ k → A .file ≡ 0 → 0 < k → Case → FirstApplies (tableCauses left) k
-  left-e k p q o (by-left r s e) = subst (FirstApplies (tableCauses left)) (sym (code-of e) ∙ p) (refused-first left s 0)
-  left-e k p q o (by-right r g s e) = absurd (let n = by-table r 1 e in let least = n .least in let most = n .most in let of-file = n .of-file in omega arith)
-  left-e k p q o (by-relation r g h s e) = absurd (let of-file = by-drawing r e .of-file in ⊎-elim (λ o. omega arith) (λ o. omega arith) (by-drawing r e .number))
-  left-e k p q o (by-room d l e) = absurd (let c = code-of e in let of-file = file-of e in omega arith)
-  left-e k p q o (by-ready y (by-starts h e)) = absurd (let c = code-of e in let of-file = file-of e in omega arith)
-  left-e k p q o (by-ready y (by-check h f)) = absurd (let of-file = check-numbers y f .1 in ⊎-elim (λ o. omega arith) (λ o. omega arith) (check-numbers y f .0))
-  left-e k p q o (by-ready y (by-chain d n)) = absurd (let c = chain-numbers n .0 in let of-file = chain-numbers n .1 in omega arith)
-  left-e k p q o (by-ready y (by-none d n m e)) = absurd (let c = code-of e in let of-file = file-of e in omega arith)
-
-  right-e : (k : ℕ) → A .code ≡ k → A .file ≡ 1 → Case → NoneApplies (tableCauses left) × FirstApplies (tableCauses right) k
-  right-e k p q (by-left r s e) = absurd (let n = by-table r 0 e in let least = n .least in let most = n .most in let of-file = n .of-file in omega arith)
-  right-e k p q (by-right r g s e) = (g, subst (FirstApplies (tableCauses right)) (sym (code-of e) ∙ p) (refused-first right s 1))
-  right-e k p q (by-relation r g h s e) = absurd (let of-file = by-drawing r e .of-file in ⊎-elim (λ o. omega arith) (λ o. omega arith) (by-drawing r e .number))
-  right-e k p q (by-room d l e) = absurd (let c = code-of e in let of-file = file-of e in omega arith)
-  right-e k p q (by-ready y (by-starts h e)) = absurd (let c = code-of e in let of-file = file-of e in omega arith)
-  right-e k p q (by-ready y (by-check h f)) = absurd (let of-file = check-numbers y f .1 in ⊎-elim (λ o. omega arith) (λ o. omega arith) (check-numbers y f .0))
-  right-e k p q (by-ready y (by-chain d n)) = absurd (let c = chain-numbers n .0 in let of-file = chain-numbers n .1 in omega arith)
-  right-e k p q (by-ready y (by-none d n m e)) = absurd (let c = code-of e in let of-file = file-of e in omega arith)
 
   relation-e : (k : ℕ) → A .code ≡ k → (k ≡ 20) ⊎ (k ≡ 15) → Case
       → NoneApplies (tableCauses left) × NoneApplies (tableCauses right) × ((i : ℕ) × FirstApplies (relationCauses (sizesOf left right) drawing) i × (getD relationNumbers i 0 ≡ k))
@@ -313,16 +277,16 @@ module _ (left right drawing output : List ℕ) (bytes : AreBytes drawing) where
   none-e p (by-ready y (by-chain d n)) = absurd (let c = chain-numbers n .0 in let of-file = chain-numbers n .1 in omega arith)
   none-e p (by-ready y (by-none d n m e)) = (d, n, m, e)
 
-  -- a table is refused as the judge refuses it
-  as-judge : 0 < A .code → A .code ≤ 9 → Case → A ≡ judgeAnswer left right []
-  as-judge p q (by-left r s e) = e ∙ sym (judged.left-answer left right [] s)
-  as-judge p q (by-right r g s e) = e ∙ sym (judged.right-answer left right [] (none-good left g) s)
-  as-judge p q (by-relation r g h s e) = absurd (let of-file = by-drawing r e .of-file in ⊎-elim (λ o. omega arith) (λ o. omega arith) (by-drawing r e .number))
-  as-judge p q (by-room d l e) = absurd (let c = code-of e in let of-file = file-of e in omega arith)
-  as-judge p q (by-ready y (by-starts h e)) = absurd (let c = code-of e in let of-file = file-of e in omega arith)
-  as-judge p q (by-ready y (by-check h f)) = absurd (let of-file = check-numbers y f .1 in ⊎-elim (λ o. omega arith) (λ o. omega arith) (check-numbers y f .0))
-  as-judge p q (by-ready y (by-chain d n)) = absurd (let c = chain-numbers n .0 in let of-file = chain-numbers n .1 in omega arith)
-  as-judge p q (by-ready y (by-none d n m e)) = absurd (let c = code-of e in let of-file = file-of e in omega arith)
+  -- where both tables are read, the number is none of a table
+  beyond : {h k : Head} → readTable left ≡ table.Good h → readTable right ≡ table.Good k → Case → Beyond A
+  beyond p q (by-left r s e) = absurd (good-not-refused p s)
+  beyond p q (by-right r g s e) = absurd (good-not-refused q s)
+  beyond p q (by-relation r g h s e) = inr (let n = by-drawing r e .of-file in omega arith)
+  beyond p q (by-room d l e) = inr (let n = file-of e in omega arith)
+  beyond p q (by-ready y (by-starts h e)) = inr (let n = file-of e in omega arith)
+  beyond p q (by-ready y (by-check h f)) = inr (let n = check-numbers y f .1 in omega arith)
+  beyond p q (by-ready y (by-chain d n)) = inr (let k = chain-numbers n .1 in omega arith)
+  beyond p q (by-ready y (by-none d n m e)) = inl (code-of e, file-of e)
 
   low-e : (A .code ≤ 7) ⊎ (A .code ≡ 20) → 0 < A .code → Case → A .a ≡ 0
   low-e q p (by-left r s e) = ⊎-elim (λ l. subst (Unnamed 7) (sym e) (table-unnamed r 0) .low l) (λ k. absurd (let n = by-table r 0 e in let most = n .most in omega arith)) q
@@ -363,8 +327,7 @@ module _ (left right drawing output : List ℕ) (bytes : AreBytes drawing) where
   maker-by-conditions =
       record {
         one-number = number-of cases;
-        left-table = λ k. (left-i, λ p. left-e k (p .0) (p .1) (p .2) cases);
-        right-table = λ k. (λ p. right-i (p .0) (p .1), λ p. right-e k (p .0) (p .1) cases);
+        tables = tables-by-conditions left right A (λ r. left-answer left right drawing output) (λ h r. right-answer left right drawing output) (λ h k p q. beyond p q cases);
         relation = λ k. (λ p. relation-i (p .0) (p .1) (p .2 .1) (p .2 .2), λ p. relation-e k (p .0) (p .1) cases);
         short = (λ p. short-i (p .0) (p .1), λ p. let q = short-e p cases in (q .0, q .1));
         starts = (λ p. starts-i (p .0) (p .1), λ p. let q = starts-e p cases in (q .0, q .1));
@@ -386,19 +349,11 @@ module _ (left right drawing output : List ℕ) (bytes : AreBytes drawing) where
         untouched = λ n. sym (refused-output left right drawing output refl n);
       }
 
-  -- of a table: as the judge names it
-  abbrev Named : (s : List ℕ) → (List ℕ → ℕ → Type 0) → Answer → Type 0
-  Named s P a = IsFirstBelow (stepsOf s) (P s) (a .a)
-
   -- a to d name the first such step, row, check or chain, and unnamed fields are 0
   pub maker-names-first : MakerNamesFirst left right drawing output (makeAnswer left right drawing output)
   maker-names-first =
-      let names = judge-names-first left right [] in
       record {
-        left-outside = λ p q. let e = as-judge (omega arith) (omega arith) cases in subst (Named left EndOutside) (sym e) (names .left-outside (sym (code-of e) ∙ p) (sym (file-of e) ∙ q));
-        right-outside = λ p q. let e = as-judge (omega arith) (omega arith) cases in subst (Named right EndOutside) (sym e) (names .right-outside (sym (code-of e) ∙ p) (sym (file-of e) ∙ q));
-        left-doubled = λ p q. let e = as-judge (omega arith) (omega arith) cases in subst (Named left EqualsEarlier) (sym e) (names .left-doubled (sym (code-of e) ∙ p) (sym (file-of e) ∙ q));
-        right-doubled = λ p q. let e = as-judge (omega arith) (omega arith) cases in subst (Named right EqualsEarlier) (sym e) (names .right-doubled (sym (code-of e) ∙ p) (sym (file-of e) ∙ q));
+        steps-named = tables-named left right A (λ r. left-answer left right drawing output) (λ h r. right-answer left right drawing output) (λ h k p q. beyond p q cases);
         wide-row = λ p. row-e p cases;
         short-named = λ p. short-e p cases .2;
         starts-named = λ p. starts-e p cases .2;

@@ -36,6 +36,7 @@ use Rattle.checker.specs.Judge.{certificateThen, pairsIn, verdictAnswer, judged
 use Rattle.table_reader.specs.TableAnswers.{tableThen}
 use Rattle.demands.specs.Judged.{view, ranks}
 use Rattle.demands.specs.Demand2.{SameWhereRelated}
+use Rattle.obligations.specs.CheckAnswers.{startsAnswer}
 use Rattle.obligations.specs.Obligation.{outcomeOf, isApart, obligationAt}
 use Rattle.obligations.specs.Judging.{joinBelow, stepsFrom, Check, labelsOf, leftStep, rightStep, pairChecks, checks, Result, stepResult, result, Verdict, accepted, refusedWith, verdict, andThen, isBy, countBy}
 use Rattle.obligations.specs.declared.Clause.{Clause}
@@ -185,7 +186,7 @@ module _ (left right c c′ : List ℕ) (d : SameWhereRelated left right c c′)
   judged-same : length c ≡ certificateLength z → judgedBytes left right c (startOf left) (startOf right) ≡ judgedBytes left right c′ (startOf left) (startOf right)
   unfolding judgedBytes judged
   judged-same e =
-      ap (λ (x : Answer). cond (view left right c .related (startOf left) (startOf right)) x (record { code = 16; file = 2; a = startOf left; b = startOf right; c = 0; d = 0 })) (answer-same (pairsIn (rowsPart c z) (statesOf left)))
+      ap (λ (x : Answer). cond (view left right c .related (startOf left) (startOf right)) x (startsAnswer (startOf left) (startOf right))) (answer-same (pairsIn (rowsPart c z) (statesOf left)))
       ∙ ap (λ (rows : List ℕ). judged (viewOf left right rows) (ranks left right c′) (pairsIn rows (statesOf left)) (startOf left) (startOf right)) (rows-same e)
 
   -- two certificates that differ only in ranks of unrelated pairs get the same six numbers

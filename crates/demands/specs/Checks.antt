@@ -8,6 +8,7 @@ use Rattle.lists.specs.Lists.{All}
 use Rattle.bisimulation.specs.Systems.{View, Ranks, flip, swap}
 use Rattle.bisimulation.specs.Clauses.{Meets2a, Meets2b, Meets2c, Meets}
 use Rattle.tables.specs.declared.Answer.{Answer}
+use Rattle.obligations.specs.CheckAnswers.{labelsAnswer, stepAnswer}
 use Rattle.obligations.specs.Judging.{Check, labelsOf, leftStep, rightStep}
 
 -- Of the own step j at t: u, t are unrelated, and no step from t goes to a state related to s. Only silent steps count, where steps have keys.
@@ -15,13 +16,6 @@ abbrev pub Apart : View → ℕ → ℕ → Type 0
 Apart v j t =
     (¬ (T (v .own .silent j) × T (v .related (v .own .to j) t)))
     × ((k : ℕ) → k < v .other .steps → v .other .from k ≡ t → T (v .other .silent k) → ¬ T (v .related (v .own .from j) (v .other .to k)))
-
--- The six numbers of 17, and of 18 and 19.
-abbrev pub labelsAnswer : ℕ → ℕ → Answer
-labelsAnswer s t = record { code = 17; file = 2; a = s; b = t; c = 0; d = 0 }
-
-abbrev pub stepAnswer : ℕ → ℕ → ℕ → ℕ → ℕ → Answer
-stepAnswer code side s t j = record { code = code; file = 2; a = side; b = s; c = t; d = j }
 
 -- The obligation of the own step j at t is unmet: 18 where the two are apart, 19 otherwise.
 abbrev pub Unmet : View → Ranks → ℕ → ℕ → ℕ → ℕ → ℕ → Answer → Type 0

@@ -11,12 +11,14 @@ use Rattle.lists.specs.Below.{IsFirstBelow, sumBelow, countBelow}
 use Rattle.words.specs.Bits.{countBits}
 use Rattle.bisimulation.specs.Systems.{System, View, Ranks}
 use Rattle.tables.specs.Table.{statesOf, stepsOf, startOf}
-use Rattle.table_reader.specs.Conditions.{FirstApplies, NoneApplies, tableCauses, EndOutside, EqualsEarlier}
+use Rattle.table_reader.specs.Conditions.{FirstApplies, NoneApplies, tableCauses}
 use Rattle.tables.specs.declared.Answer.{Answer}
 use Rattle.certificates.specs.Layout.{sizesOf, rowsPart, rowOf}
 use Rattle.certificate_reader.specs.CertificateConditions.{certificateCauses, certificateNumbers, HasWideBit}
 use Rattle.certificates.specs.CertificateModel.{viewOf, ranksOf}
+use Rattle.obligations.specs.CheckAnswers.{startsAnswer}
 use Rattle.obligations.specs.Judging.{checks}
+use Rattle.demands.specs.TablesRefused.{TablesByConditions, StepsNamed}
 use Rattle.demands.specs.Checks.{Passes, FirstFailure, ByAnswer, ByStutter, ByMatch, Counts}
 
 module _ (left right c : List ℕ) where
@@ -65,9 +67,8 @@ JudgeNumber a = ((a .code ≡ 0) × (a .file ≡ 0)) ⊎ ((1 ≤ a .code) × (a 
 pub record AnswersByConditions (left right c : List ℕ) (answer : Answer) : Type 0 where
   -- it succeeds, or refuses with one of these numbers
   pub one-number : JudgeNumber answer
-  -- 1 to 9 of the left table, then of the right
-  pub left-table : (k : ℕ) → FirstApplies (tableCauses left) k ↔ ((answer .code ≡ k) × (answer .file ≡ 0) × (0 < k))
-  pub right-table : (k : ℕ) → (NoneApplies (tableCauses left) × FirstApplies (tableCauses right) k) ↔ ((answer .code ≡ k) × (answer .file ≡ 1))
+  -- 1 to 9
+  pub tables : TablesByConditions left right answer
   -- 10 to 15
   pub certificate : (k : ℕ)
       → (NoneApplies (tableCauses left) × NoneApplies (tableCauses right) × ((i : ℕ) × FirstApplies (certificateCauses (sizesOf left right) c) i × (getD certificateNumbers i 0 ≡ k)))
@@ -84,14 +85,11 @@ pub record AnswersByConditions (left right c : List ℕ) (answer : Answer) : Typ
 -- What the six numbers name, and that unnamed fields are 0.
 pub record NamesFirst (left right c : List ℕ) (answer : Answer) : Type 0 where
   -- 8 and 9: the first such step
-  pub left-outside : answer .code ≡ 8 → answer .file ≡ 0 → IsFirstBelow (stepsOf left) (EndOutside left) (answer .a)
-  pub right-outside : answer .code ≡ 8 → answer .file ≡ 1 → IsFirstBelow (stepsOf right) (EndOutside right) (answer .a)
-  pub left-doubled : answer .code ≡ 9 → answer .file ≡ 0 → IsFirstBelow (stepsOf left) (EqualsEarlier left) (answer .a)
-  pub right-doubled : answer .code ≡ 9 → answer .file ≡ 1 → IsFirstBelow (stepsOf right) (EqualsEarlier right) (answer .a)
+  pub steps-named : StepsNamed left right answer
   -- 15: the first such row
   pub wide-row : answer .code ≡ 15 → IsFirstBelow (statesOf left) (HasWideBit (rowsPart c (sizesOf left right)) (statesOf right)) (answer .a)
   -- 16: the starts
-  pub starts-named : answer .code ≡ 16 → answer ≡ record { code = 16; file = 2; a = startOf left; b = startOf right; c = 0; d = 0 }
+  pub starts-named : answer .code ≡ 16 → answer ≡ startsAnswer (startOf left) (startOf right)
   -- 17 to 19: the first check that fails, in judging order
   pub check-named : 17 ≤ answer .code → answer .code ≤ 19 → FirstFailure (view left right c) (ranks left right c) (checks (view left right c)) answer
   -- unnamed fields are 0

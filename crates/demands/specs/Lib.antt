@@ -1,3 +1,4 @@
+pub mod TablesRefused
 pub mod Checks
 pub mod Judged
 pub mod Ranks

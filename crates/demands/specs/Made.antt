@@ -9,15 +9,17 @@ use Rattle.lists.specs.Lists.{All}
 use Rattle.lists.specs.Below.{IsFirstBelow}
 use Rattle.bisimulation.specs.Systems.{View, flip}
 use Rattle.bisimulation.specs.Runs.{MatchingRun, StutteringChain}
-use Rattle.tables.specs.Table.{statesOf, stepsOf, startOf}
+use Rattle.tables.specs.Table.{statesOf, startOf}
 use Rattle.tables.specs.Answers.{refusal}
-use Rattle.table_reader.specs.Conditions.{FirstApplies, NoneApplies, tableCauses, EndOutside, EqualsEarlier}
+use Rattle.table_reader.specs.Conditions.{FirstApplies, NoneApplies, tableCauses}
 use Rattle.tables.specs.declared.Answer.{Answer}
 use Rattle.certificates.specs.Layout.{sizesOf, certificateLength}
 use Rattle.certificate_reader.specs.CertificateConditions.{relationCauses, relationNumbers, HasWideBit}
 use Rattle.certificates.specs.CertificateModel.{viewOf}
+use Rattle.obligations.specs.CheckAnswers.{startsAnswer, labelsAnswer, stepAnswer, chainAnswer}
 use Rattle.obligations.specs.Judging.{Check, labelsOf, leftStep, rightStep, checks}
-use Rattle.demands.specs.Checks.{labelsAnswer, stepAnswer, FirstFailing}
+use Rattle.demands.specs.TablesRefused.{TablesByConditions, StepsNamed}
+use Rattle.demands.specs.Checks.{FirstFailing}
 use Rattle.demands.specs.Demand2.{Drawn}
 
 -- ---- 17 and 22
@@ -65,7 +67,7 @@ pub record FirstLongChain (v : View) (side : ℕ) (a : Answer) : Type 0 where
   pub long : LongChain v fixed first
   pub least-fixed : (b c : ℕ) → b < fixed → c < v .own .states → ¬ LongChain v b c
   pub least-first : (c : ℕ) → c < first → ¬ LongChain v fixed c
-  pub numbers : a ≡ record { code = 23; file = 2; a = side; b = fixed; c = first; d = 0 }
+  pub numbers : a ≡ chainAnswer side fixed first
 
 -- Left side first.
 abbrev pub NamesChain : View → Answer → Type 0
@@ -103,9 +105,8 @@ module _ (left right drawing output : List ℕ) where
   pub record MakesByConditions (answer : Answer) (after : List ℕ) : Type 0 where
     -- it succeeds, or refuses with one of these numbers
     pub one-number : MakerNumber answer
-    -- 1 to 9 of the left table, then of the right
-    pub left-table : (k : ℕ) → FirstApplies (tableCauses left) k ↔ ((answer .code ≡ k) × (answer .file ≡ 0) × (0 < k))
-    pub right-table : (k : ℕ) → (NoneApplies (tableCauses left) × FirstApplies (tableCauses right) k) ↔ ((answer .code ≡ k) × (answer .file ≡ 1))
+    -- 1 to 9
+    pub tables : TablesByConditions left right answer
     -- 20, then 15
     pub relation : (k : ℕ)
         → (NoneApplies (tableCauses left) × NoneApplies (tableCauses right) × ((i : ℕ) × FirstApplies (relationCauses (sizesOf left right) drawing) i × (getD relationNumbers i 0 ≡ k)))
@@ -128,16 +129,13 @@ module _ (left right drawing output : List ℕ) where
   -- What the six numbers name, and that unnamed fields are 0.
   pub record MakerNamesFirst (answer : Answer) : Type 0 where
     -- 8 and 9: the first such step
-    pub left-outside : answer .code ≡ 8 → answer .file ≡ 0 → IsFirstBelow (stepsOf left) (EndOutside left) (answer .a)
-    pub right-outside : answer .code ≡ 8 → answer .file ≡ 1 → IsFirstBelow (stepsOf right) (EndOutside right) (answer .a)
-    pub left-doubled : answer .code ≡ 9 → answer .file ≡ 0 → IsFirstBelow (stepsOf left) (EqualsEarlier left) (answer .a)
-    pub right-doubled : answer .code ≡ 9 → answer .file ≡ 1 → IsFirstBelow (stepsOf right) (EqualsEarlier right) (answer .a)
+    pub steps-named : StepsNamed left right answer
     -- 15: the first such row
     pub wide-row : answer .code ≡ 15 → IsFirstBelow (statesOf left) (HasWideBit drawing (statesOf right)) (answer .a)
     -- 21: the length L
     pub short-named : answer .code ≡ 21 → answer ≡ refusal 21 3 (certificateLength (sizesOf left right))
     -- 16: the starts
-    pub starts-named : answer .code ≡ 16 → answer ≡ record { code = 16; file = 2; a = startOf left; b = startOf right; c = 0; d = 0 }
+    pub starts-named : answer .code ≡ 16 → answer ≡ startsAnswer (startOf left) (startOf right)
     -- 17 and 22: the first such check, in judging order
     pub check-named : (answer .code ≡ 17) ⊎ (answer .code ≡ 22) → FirstFailing (Clears (viewOf left right drawing)) (Refuses (viewOf left right drawing)) (checks (viewOf left right drawing)) answer
     -- 23: the first such chain

@@ -37,7 +37,8 @@ use Rattle.lengths.proofs.AgreementLaws.{tables-agree}
 use Rattle.lengths.proofs.DistanceLaws.{matched-test}
 use Rattle.lengths.proofs.LengthTableLaws.{cell-distance, cell-chain}
 use Rattle.examination.specs.declared.Starts.{Starts}
-use Rattle.examination.specs.Examine.{followedBy, firstStop, stepAnswer, labelsAnswer, chainAnswer, answered, resultBy, makerResult, endlessAt, firstChain, endless, startsVerdict, examined}
+use Rattle.obligations.specs.CheckAnswers.{stepAnswer, labelsAnswer, chainAnswer}
+use Rattle.examination.specs.Examine.{followedBy, firstStop, answered, resultBy, makerResult, endlessAt, firstChain, endless, startsVerdict, examined}
 use Rattle.examination.specs.Walk.{wordsView, answeredBy, longBy, verdictIf, stepsVerdict, pairVerdict, rowVerdict, pairsVerdict, examinedBy}
 use Rattle.examination.proofs.VerdictLaws.{of-cong}
 use Rattle.examination.proofs.WalkLaws.{pairs-stop}
@@ -93,8 +94,8 @@ module _ (v : View) (left right left′ right′ : ℕ → ℕ → Bool)
   pair-cong s t h =
       ap (followedBy (verdictIf (eqb (v .own .label s) (v .other .label t)) (labelsAnswer s t)))
       (ap₂ followedBy
-      (of-cong (v .own .steps) _ _ (λ j l. ap (λ (b : Bool). cond (eqb (v .own .from j) s) (verdictIf b (stepAnswer 0 s t j)) accepted) (same s t j h l)))
-      (of-cong (v .other .steps) _ _ (λ j l. ap (λ (b : Bool). cond (eqb (v .other .from j) t) (verdictIf b (stepAnswer 1 s t j)) accepted) (same′ s t j h l))))
+      (of-cong (v .own .steps) _ _ (λ j l. ap (λ (b : Bool). cond (eqb (v .own .from j) s) (verdictIf b (stepAnswer 22 0 s t j)) accepted) (same s t j h l)))
+      (of-cong (v .other .steps) _ _ (λ j l. ap (λ (b : Bool). cond (eqb (v .other .from j) t) (verdictIf b (stepAnswer 22 1 s t j)) accepted) (same′ s t j h l))))
 
   pub pairs-cong : pairsVerdict v left right ≡ pairsVerdict v left′ right′
   unfolding pairsVerdict rowVerdict

@@ -16,7 +16,8 @@ use Rattle.bisimulation.proofs.ClauseLaws.{flip-formed, pairs-e, pairs-i, steps
 use Rattle.bisimulation.proofs.Equivalences.{one-initial}
 use Rattle.tables.specs.declared.Answer.{Answer}
 use Rattle.obligations.specs.Judging.{checks, Verdict, accepted, refusedWith}
-use Rattle.examination.specs.Examine.{followedBy, firstStop, startsAnswer, labelsAnswer, stepAnswer, chainAnswer, answered, makerResult, endlessAt, firstChain, endless, startsVerdict, examined}
+use Rattle.obligations.specs.CheckAnswers.{startsAnswer, labelsAnswer, stepAnswer, chainAnswer}
+use Rattle.examination.specs.Examine.{followedBy, firstStop, answered, makerResult, endlessAt, firstChain, endless, startsVerdict, examined}
 use Rattle.examination.specs.Walk.{verdictIf, stepsVerdict, pairVerdict, rowVerdict, pairsVerdict}
 use Rattle.examination.proofs.VerdictLaws.{accepted-not-refused, both-accepted, accepted-both, of-none, of-accepted}
 use Rattle.examination.proofs.WalkLaws.{pairs-stop}
@@ -65,11 +66,11 @@ module _ (v : View) (w : WellFormed v) where
       when-accepted (v .related s t) (of-accepted (v .other .states) _ (of-accepted (v .own .states) _ e s (w .here .related< s t h)) t (w .there .related< t s h)) h
 
   module _ (s t : ℕ) (e : pairVerdict v (answered v) (answered (flip v)) s t ≡ accepted) where
-    steps-pass : (stepsVerdict (v .own) (λ j. answered v j t) s (stepAnswer 0 s t) ≡ accepted) × (stepsVerdict (v .other) (λ j. answered (flip v) j s) t (stepAnswer 1 s t) ≡ accepted)
+    steps-pass : (stepsVerdict (v .own) (λ j. answered v j t) s (stepAnswer 22 0 s t) ≡ accepted) × (stepsVerdict (v .other) (λ j. answered (flip v) j s) t (stepAnswer 22 1 s t) ≡ accepted)
     unfolding pairVerdict
     steps-pass =
-        let left = stepsVerdict (v .own) (λ j. answered v j t) s (stepAnswer 0 s t) in
-        let right = stepsVerdict (v .other) (λ j. answered (flip v) j s) t (stepAnswer 1 s t) in
+        let left = stepsVerdict (v .own) (λ j. answered v j t) s (stepAnswer 22 0 s t) in
+        let right = stepsVerdict (v .other) (λ j. answered (flip v) j s) t (stepAnswer 22 1 s t) in
         both-accepted left right (both-accepted (verdictIf (eqb (v .own .label s) (v .other .label t)) (labelsAnswer s t)) (followedBy left right) e .1)
 
     pair-labels : v .own .label s ≡ v .other .label t
@@ -77,10 +78,10 @@ module _ (v : View) (w : WellFormed v) where
     pair-labels = eqb→eq _ _ (if-accepted (eqb (v .own .label s) (v .other .label t)) (labelsAnswer s t) (both-accepted _ _ e .0))
 
     pair-left : (j : ℕ) → j < v .own .steps → v .own .from j ≡ s → T (answered v j t)
-    pair-left = steps-accepted (v .own) (λ j. answered v j t) s (stepAnswer 0 s t) (steps-pass .0)
+    pair-left = steps-accepted (v .own) (λ j. answered v j t) s (stepAnswer 22 0 s t) (steps-pass .0)
 
     pair-right : (j : ℕ) → j < v .other .steps → v .other .from j ≡ t → T (answered (flip v) j s)
-    pair-right = steps-accepted (v .other) (λ j. answered (flip v) j s) t (stepAnswer 1 s t) (steps-pass .1)
+    pair-right = steps-accepted (v .other) (λ j. answered (flip v) j s) t (stepAnswer 22 1 s t) (steps-pass .1)
 
   passed-tests : pairsVerdict v (answered v) (answered (flip v)) ≡ accepted → T (labelsEqual v) × T (noneUnmatched v) × T (noneUnmatched (flip v))
   unfolding noneUnmatched answered
@@ -94,9 +95,9 @@ module _ (v : View) (w : WellFormed v) where
   unfolding pairsVerdict rowVerdict pairVerdict noneUnmatched answered
   tests-pass l a b = of-none (v .own .states) _ (λ s hs. of-none (v .other .states) _ (λ t ht. accepted-when (v .related s t) (λ h.
       accepted-both (verdictIf (eqb (v .own .label s) (v .other .label t)) (labelsAnswer s t)) _ (accepted-if (eqb (v .own .label s) (v .other .label t)) (labelsAnswer s t) (eq→eqb _ _ (labels-e v w l s t h)))
-      (accepted-both (stepsVerdict (v .own) (λ j. answered v j t) s (stepAnswer 0 s t)) _
-      (accepted-steps (v .own) (λ j. answered v j t) s (stepAnswer 0 s t) (λ j lj q. steps-e v s _ (pairs-e v w _ a s t h) j lj q))
-      (accepted-steps (v .other) (λ j. answered (flip v) j s) t (stepAnswer 1 s t) (λ j lj q. steps-e (flip v) t _ (pairs-e (flip v) (flip-formed v w) _ b t s h) j lj q))))))
+      (accepted-both (stepsVerdict (v .own) (λ j. answered v j t) s (stepAnswer 22 0 s t)) _
+      (accepted-steps (v .own) (λ j. answered v j t) s (stepAnswer 22 0 s t) (λ j lj q. steps-e v s _ (pairs-e v w _ a s t h) j lj q))
+      (accepted-steps (v .other) (λ j. answered (flip v) j s) t (stepAnswer 22 1 s t) (λ j lj q. steps-e (flip v) t _ (pairs-e (flip v) (flip-formed v w) _ b t s h) j lj q))))))
 
 -- ---- 23
 

@@ -10,7 +10,8 @@ use Rattle.tables.specs.Model.{systemOf}
 use Rattle.tables.specs.declared.Answer.{Answer}
 use Rattle.obligations.specs.Judging.{Verdict, accepted, refusedWith}
 use Rattle.examination.specs.declared.Examined.the-variants.{Stopped}
-use Rattle.examination.specs.Examine.{followedBy, labelsAnswer, stepAnswer}
+use Rattle.obligations.specs.CheckAnswers.{labelsAnswer, stepAnswer}
+use Rattle.examination.specs.Examine.{followedBy}
 use Rattle.examination.specs.Walk.{asExamined, wordsView, answeredBy, unansweredBy, verdictIf, stepsVerdict, pairVerdict}
 use Rattle.examination.proofs.WalkLaws.{steps-refused, steps-kept}
 
@@ -38,10 +39,10 @@ module _ (left right rows columns distances others : List ℕ) (s t : ℕ) where
   pairAt = pairVerdict (wordsView left right rows) (answeredBy (stepsPart left) rows distances (statesOf right)) (answeredBy (stepsPart right) columns others (statesOf left)) s t
 
   abbrev leftSteps : Verdict
-  leftSteps = stepsVerdict (systemOf left) (λ j. answeredBy (stepsPart left) rows distances (statesOf right) j t) s (stepAnswer 0 s t)
+  leftSteps = stepsVerdict (systemOf left) (λ j. answeredBy (stepsPart left) rows distances (statesOf right) j t) s (stepAnswer 22 0 s t)
 
   abbrev rightSteps : Verdict
-  rightSteps = stepsVerdict (systemOf right) (λ j. answeredBy (stepsPart right) columns others (statesOf left) j s) t (stepAnswer 1 s t)
+  rightSteps = stepsVerdict (systemOf right) (λ j. answeredBy (stepsPart right) columns others (statesOf left) j s) t (stepAnswer 22 1 s t)
 
   module _ {ll rl : List ℕ} {x y : ℕ} (el : ll ≡ labelsPart left) (er : rl ≡ labelsPart right) (ex : x ≡ labelOf ll s) (ey : y ≡ labelOf rl t) where
     label-left : systemOf left .label s ≡ x

@@ -12,7 +12,8 @@ use Rattle.bisimulation.specs.Systems.{View, flip}
 use Rattle.tables.specs.declared.Answer.{Answer}
 use Rattle.obligations.specs.Judging.{Check, labelsOf, leftStep, rightStep, checks, Result, passes, metBy, stops, accepted, refusedWith, andThen}
 use Rattle.obligations.proofs.JudgingLaws.{goes}
-use Rattle.examination.specs.Examine.{followedBy, firstStop, startsAnswer, labelsAnswer, stepAnswer, chainAnswer, answered, resultBy, makerResult, endlessAt, firstChain, endless, startsVerdict, examined}
+use Rattle.obligations.specs.CheckAnswers.{startsAnswer, labelsAnswer, stepAnswer, chainAnswer}
+use Rattle.examination.specs.Examine.{followedBy, firstStop, answered, resultBy, makerResult, endlessAt, firstChain, endless, startsVerdict, examined}
 use Rattle.examination.proofs.VerdictLaws.{accepted-not-refused, one-refused, of-accepted, of-refused}
 use Rattle.examination.proofs.ExamineLaws.{if-accepted}
 
@@ -120,8 +121,8 @@ code-of false x y e = let q : x ≡ y = cc e in ap (λ (a : Answer). a .code) (s
 pub check-code : (v : View) (c : Check) (answer : Answer) → makerResult v c ≡ stops answer → (answer .code ≡ 17) ⊎ (answer .code ≡ 22)
 unfolding makerResult resultBy
 check-code v (labelsOf s t) answer e = inl (code-of (eqb (v .own .label s) (v .other .label t)) (labelsAnswer s t) answer e)
-check-code v (leftStep s t j) answer e = inr (code-of (answered v j t) (stepAnswer 0 s t j) answer e)
-check-code v (rightStep s t j) answer e = inr (code-of (answered (flip v) j s) (stepAnswer 1 s t j) answer e)
+check-code v (leftStep s t j) answer e = inr (code-of (answered v j t) (stepAnswer 22 0 s t j) answer e)
+check-code v (rightStep s t j) answer e = inr (code-of (answered (flip v) j s) (stepAnswer 22 1 s t j) answer e)
 
 -- 23 is answered only where no check stops, and names the first chain, left side first
 pub refused-by-23 : (v : View) (start start′ : ℕ) (answer : Answer) → examined v start start′ ≡ refusedWith answer → answer .code ≡ 23

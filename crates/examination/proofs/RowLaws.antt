@@ -15,7 +15,8 @@ use Rattle.tables.specs.declared.Answer.{Answer}
 use Rattle.obligations.specs.Judging.{Verdict, accepted, refusedWith}
 use Rattle.examination.specs.declared.Examined.the-variants.{Passed, Stopped}
 use Rattle.examination.specs.declared.Starts.{Starts}
-use Rattle.examination.specs.Examine.{followedBy, firstOf, startsAnswer, chainAnswer, firstChain, startsVerdict}
+use Rattle.obligations.specs.CheckAnswers.{startsAnswer, chainAnswer}
+use Rattle.examination.specs.Examine.{followedBy, firstOf, firstChain, startsVerdict}
 use Rattle.examination.specs.Walk.{asExamined, wordsView, answeredBy, longBy, rowVerdict, pairsVerdict, examinedBy}
 use Rattle.examination.proofs.VerdictLaws.{of-none, of-hit, test-hit, test-none, was-accepted, was-refused}
 use Rattle.examination.proofs.WalkLaws.{InWord, word-refused, word-end, pairs-stop}

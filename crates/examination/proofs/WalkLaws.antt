@@ -15,7 +15,8 @@ use Rattle.words.proofs.BitLaws as bits
 use Rattle.bisimulation.specs.Systems.{System, View}
 use Rattle.tables.specs.declared.Answer.{Answer}
 use Rattle.obligations.specs.Judging.{stepsFrom, Check, labelsOf, leftStep, rightStep, pairChecks, checks, Result, passes, stops, Verdict, accepted, refusedWith}
-use Rattle.examination.specs.Examine.{followedBy, firstStop, firstOf, stepAnswer, labelsAnswer, resultBy}
+use Rattle.obligations.specs.CheckAnswers.{stepAnswer, labelsAnswer}
+use Rattle.examination.specs.Examine.{followedBy, firstStop, firstOf, resultBy}
 use Rattle.examination.specs.Walk.{verdictIf, stepsVerdict, pairVerdict, rowVerdict, pairsVerdict}
 use Rattle.examination.proofs.VerdictLaws.{of-cong, of-none, of-hit, test-hit, test-none, stop-append, stop-join, stop-when, stop-one, map-map}
 
@@ -38,8 +39,8 @@ module _ (v : View) (left right : ℕ → ℕ → Bool) where
       ∙ ap₂ followedBy (stop-one (eqb (v .own .label s) (v .other .label t)) (labelsAnswer s t))
       (stop-append (resultBy v left right) (map (leftStep s t) (stepsFrom (v .own) s)) (map (rightStep s t) (stepsFrom (v .other) t))
       ∙ ap₂ followedBy
-      (steps-stop (resultBy v left right) (v .own) s (leftStep s t) (λ j. left j t) (stepAnswer 0 s t) (λ j. refl))
-      (steps-stop (resultBy v left right) (v .other) t (rightStep s t) (λ j. right j s) (stepAnswer 1 s t) (λ j. refl)))
+      (steps-stop (resultBy v left right) (v .own) s (leftStep s t) (λ j. left j t) (stepAnswer 22 0 s t) (λ j. refl))
+      (steps-stop (resultBy v left right) (v .other) t (rightStep s t) (λ j. right j s) (stepAnswer 22 1 s t) (λ j. refl)))
 
   -- the walk over all pairs is the first stop of the checks in judging order
   pub pairs-stop : firstStop (map (resultBy v left right) (checks v)) ≡ pairsVerdict v left right

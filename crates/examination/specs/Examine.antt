@@ -6,7 +6,7 @@ use mathlib.Core.List.{List, [], _∷_, map}
 use lib.Dec.{leb, eqb}
 use Rattle.bisimulation.specs.Systems.{View, flip}
 use Rattle.bisimulation.specs.Maker.{matched, chainLength}
-use Rattle.tables.specs.declared.Answer.{Answer}
+use Rattle.obligations.specs.CheckAnswers.{startsAnswer, labelsAnswer, stepAnswer, chainAnswer}
 use Rattle.obligations.specs.Judging.{Check, labelsOf, leftStep, rightStep, checks, Result, passes, stops, Verdict, accepted, refusedWith, andThen}
 
 -- ---- verdicts
@@ -26,20 +26,6 @@ unfoldable pub firstOf : ℕ → (ℕ → Verdict) → Verdict
 firstOf zero f = accepted
 firstOf (suc n) f = followedBy (f 0) (firstOf n (λ i. f (suc i)))
 
--- ---- the answers; side is 0 left, 1 right
-
-abbrev pub startsAnswer : ℕ → ℕ → Answer
-startsAnswer s t = record { code = 16; file = 2; a = s; b = t; c = 0; d = 0 }
-
-abbrev pub labelsAnswer : ℕ → ℕ → Answer
-labelsAnswer s t = record { code = 17; file = 2; a = s; b = t; c = 0; d = 0 }
-
-abbrev pub stepAnswer : ℕ → ℕ → ℕ → ℕ → Answer
-stepAnswer side s t j = record { code = 22; file = 2; a = side; b = s; c = t; d = j }
-
-abbrev pub chainAnswer : ℕ → ℕ → ℕ → Answer
-chainAnswer side b c = record { code = 23; file = 2; a = side; b = b; c = c; d = 0 }
-
 -- ---- 17 and 22
 
 -- The own step j may be kept at t: it is matched, or it is silent and enters a state related to t.
@@ -49,8 +35,8 @@ answered v j t = matched v j t || v .own .silent j && v .related (v .own .to j) 
 -- What becomes of a check, by a test of the left steps at a right state and a test of the right steps at a left state.
 unfoldable pub resultBy : View → (ℕ → ℕ → Bool) → (ℕ → ℕ → Bool) → Check → Result
 resultBy v left right (labelsOf s t) = cond (eqb (v .own .label s) (v .other .label t)) passes (stops (labelsAnswer s t))
-resultBy v left right (leftStep s t j) = cond (left j t) passes (stops (stepAnswer 0 s t j))
-resultBy v left right (rightStep s t j) = cond (right j s) passes (stops (stepAnswer 1 s t j))
+resultBy v left right (leftStep s t j) = cond (left j t) passes (stops (stepAnswer 22 0 s t j))
+resultBy v left right (rightStep s t j) = cond (right j s) passes (stops (stepAnswer 22 1 s t j))
 
 unfoldable pub makerResult : View → Check → Result
 makerResult v = resultBy v (answered v) (answered (flip v))
@@ -61,7 +47,7 @@ makerResult v = resultBy v (answered v) (answered (flip v))
 unfoldable pub endlessAt : View → ℕ → ℕ → Bool
 endlessAt v b c = v .related c b && leb (v .own .states) (chainLength v b (v .own .states) c)
 
--- The first chain that the test finds: the smallest b below m, then the smallest c below n.
+-- The first chain that the test finds: the smallest b below m, then the smallest c below n. Side is 0 left, 1 right.
 unfoldable pub firstChain : ℕ → ℕ → ℕ → (ℕ → ℕ → Bool) → Verdict
 firstChain side m n long = firstOf m (λ b. firstOf n (λ c. cond (long b c) (refusedWith (chainAnswer side b c)) accepted))
 

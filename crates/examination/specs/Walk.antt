@@ -15,7 +15,8 @@ use Rattle.obligations.specs.Judging.{checks, Verdict, accepted, refusedWith}
 use Rattle.examination.specs.declared.Examined.{Examined}
 use Rattle.examination.specs.declared.Examined.the-variants.{Passed, Stopped}
 use Rattle.examination.specs.declared.Starts.{Starts}
-use Rattle.examination.specs.Examine.{followedBy, firstStop, firstOf, labelsAnswer, stepAnswer, resultBy, firstChain, startsVerdict}
+use Rattle.obligations.specs.CheckAnswers.{labelsAnswer, stepAnswer}
+use Rattle.examination.specs.Examine.{followedBy, firstStop, firstOf, resultBy, firstChain, startsVerdict}
 
 abbrev pub asExamined : Verdict → Examined
 asExamined accepted = Passed
@@ -53,8 +54,8 @@ module _ (v : View) (left right : ℕ → ℕ → Bool) where
   unfoldable pub pairVerdict : ℕ → ℕ → Verdict
   pairVerdict s t =
       followedBy (verdictIf (eqb (v .own .label s) (v .other .label t)) (labelsAnswer s t))
-      (followedBy (stepsVerdict (v .own) (λ j. left j t) s (stepAnswer 0 s t))
-      (stepsVerdict (v .other) (λ j. right j s) t (stepAnswer 1 s t)))
+      (followedBy (stepsVerdict (v .own) (λ j. left j t) s (stepAnswer 22 0 s t))
+      (stepsVerdict (v .other) (λ j. right j s) t (stepAnswer 22 1 s t)))
 
   unfoldable pub rowVerdict : ℕ → Verdict
   rowVerdict s = firstOf (v .other .states) (λ t. cond (v .related s t) (pairVerdict s t) accepted)

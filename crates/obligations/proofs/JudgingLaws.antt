@@ -12,9 +12,10 @@ use Rattle.lists.specs.Lists.{All}
 use Rattle.lists.proofs.BoolLaws.{T-dec, eq→eqb}
 use Rattle.tables.specs.declared.Answer.{Answer}
 use Rattle.bisimulation.specs.Systems.{System, View, Ranks, WellFormed, flip, swap}
-use Rattle.bisimulation.specs.Judge.{isMet, outcome, labelsEqual, obligationsMet}
+use Rattle.bisimulation.specs.Judge.{isMet, labelsEqual, obligationsMet}
 use Rattle.bisimulation.proofs.ClauseLaws.{flip-formed, pairs-e, pairs-i, steps-e, steps-i, labels-e, labels-i}
 use Rattle.obligations.specs.Obligation.{obligationAt}
+use Rattle.obligations.specs.CheckAnswers.{labelsAnswer}
 use Rattle.obligations.specs.Judging.{joinBelow, stepsFrom, Check, labelsOf, leftStep, rightStep, pairChecks, checks, Result, passes, metBy, stops, stepResult, result, Verdict, accepted, refusedWith, andThen, verdict, isBy, countBy, isObligation, countObligations}
 use Rattle.obligations.specs.declared.Clause.{Clause}
 use Rattle.obligations.specs.declared.Clause.the-variants.{Answer as Answered, Stutter as Stuttered, Match as Matched}
@@ -107,10 +108,10 @@ module _ (v : View) (r : Ranks) where
       go (stops answer) e rest = absurd (let z : _≡_ {A = ℕ} 0 1 = cc e in omega arith)
 
 -- a step's check goes on exactly where its obligation is met
-pub step-i : (v : View) (r : Ranks) (j t side a b c : ℕ) → T (isMet (outcome v r j t)) → T (goes (stepResult side a b c (obligationAt v r j t)))
+pub step-i : (v : View) (r : Ranks) (j t side a b c : ℕ) → T (isMet v r j t) → T (goes (stepResult side a b c (obligationAt v r j t)))
 step-i v r j t side a b c h = let q = met-iff v r j t .0 h in rw (q .1) tt
 
-pub step-e : (v : View) (r : Ranks) (j t side a b c : ℕ) → T (goes (stepResult side a b c (obligationAt v r j t))) → T (isMet (outcome v r j t))
+pub step-e : (v : View) (r : Ranks) (j t side a b c : ℕ) → T (goes (stepResult side a b c (obligationAt v r j t))) → T (isMet v r j t)
 step-e v r j t side a b c h = met-iff v r j t .1 (go (obligationAt v r j t) h)
   where
     go : (o : Outcome) → T (goes (stepResult side a b c o)) → (k : Clause) × (o ≡ Met k)
@@ -122,7 +123,7 @@ pub label-i : (v : View) (r : Ranks) (s t : ℕ) → v .own .label s ≡ v .othe
 unfolding result
 label-i v r s t e = go (eqb (v .own .label s) (v .other .label t)) (eq→eqb _ _ e)
   where
-    go : (b : Bool) → T b → T (goes (cond b passes (stops (record { code = 17; file = 2; a = s; b = t; c = 0; d = 0 }))))
+    go : (b : Bool) → T b → T (goes (cond b passes (stops (labelsAnswer s t))))
     go true h = tt
     go false h = absurd h
 
@@ -130,7 +131,7 @@ pub label-e : (v : View) (r : Ranks) (s t : ℕ) → Goes v r (labelsOf s t) →
 unfolding result
 label-e v r s t h = eqb→eq _ _ (go (eqb (v .own .label s) (v .other .label t)) h)
   where
-    go : (b : Bool) → T (goes (cond b passes (stops (record { code = 17; file = 2; a = s; b = t; c = 0; d = 0 })))) → T b
+    go : (b : Bool) → T (goes (cond b passes (stops (labelsAnswer s t)))) → T b
     go true h = tt
     go false h = absurd h
 
@@ -220,7 +221,7 @@ module _ (v : View) (r : Ranks) where
   unfolding result
   check-counts (labelsOf s t) h = go (eqb (v .own .label s) (v .other .label t)) h
     where
-      go : (b : Bool) → let x = cond b passes (stops (record { code = 17; file = 2; a = s; b = t; c = 0; d = 0 })) in T (goes x) → isBy Answered x + (isBy Stuttered x + isBy Matched x) ≡ 0
+      go : (b : Bool) → let x = cond b passes (stops (labelsAnswer s t)) in T (goes x) → isBy Answered x + (isBy Stuttered x + isBy Matched x) ≡ 0
       go true h = refl
       go false h = absurd h
   check-counts (leftStep s t j) h = step-counts v r j t 0 s t j h

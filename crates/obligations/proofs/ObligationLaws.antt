@@ -2,7 +2,7 @@
 use Prim.Native.Nat.{ℕ, _^_, _≤_, _<_}
 use mathlib.Core.Path.{_≡_, refl, sym, ap, ap₂, _∙_, subst}
 use mathlib.Core.Logic.{_↔_}
-use mathlib.Core.Bool.{Bool, true, false, not, _&&_, and-false, cond}
+use mathlib.Core.Bool.{Bool, true, false, not, _&&_, _||_, and-false, cond}
 use mathlib.Core.List.{List}
 use native.Mathlib.Omega.{arith}
 use native.Mathlib.Decide.{ℕ-discrete}
@@ -19,7 +19,7 @@ use Rattle.obligations.specs.declared.Clause.the-variants.{Answer, Stutt
 use Rattle.obligations.specs.declared.Cause.the-variants.{Apart, Rank}
 use Rattle.obligations.specs.declared.Outcome.the-variants.{Met, Failed}
 use Rattle.bisimulation.specs.Systems.{View, Ranks}
-use Rattle.bisimulation.specs.Judge.{is2a, is2b, is2c, isMet, firstOf, outcome}
+use Rattle.bisimulation.specs.Judge.{is2a, is2b, is2c, isMet}
 use Rattle.bisimulation.specs.Triples.{ahead}
 use Rattle.bisimulation.proofs.ClauseLaws.{is2a-e, is2a-i, is2c-e, is2c-i}
 use Rattle.obligations.specs.declared.Clause.{Clause}
@@ -193,15 +193,15 @@ module _ (v : View) (r : Ranks) (j t : ℕ) (f : Facing) (faces : Faces v j t f)
 
 -- ---- the theory's outcome in words
 
--- 18 exactly where the obligation is unmet, u, t are unrelated (or the step is not silent), and no silent step from t goes to a state related to s
-pub met-iff : (v : View) (r : Ranks) (j t : ℕ) → T (isMet (outcome v r j t)) ↔ ((k : Clause) × (obligationAt v r j t ≡ Met k))
-unfolding outcome obligationAt outcomeOf
+-- the outcome is met exactly where the theory finds the obligation met
+pub met-iff : (v : View) (r : Ranks) (j t : ℕ) → T (isMet v r j t) ↔ ((k : Clause) × (obligationAt v r j t ≡ Met k))
+unfolding isMet obligationAt outcomeOf
 met-iff v r j t = go (is2a v j t) (is2b v r j t) (is2c v r j t) (isApart v j t)
   where
     no : {k : Clause} {e : Cause} → _≡_ {A = Outcome} (Failed e) (Met k) → ⊥
     no q = let z : _≡_ {A = ℕ} 0 1 = cc q in omega arith
 
-    go : (a b c d : Bool) → T (isMet (firstOf a b c)) ↔ ((k : Clause) × (cond a (Met Answer) (cond b (Met Stutter) (cond c (Met Match) (cond d (Failed Apart) (Failed Rank)))) ≡ Met k))
+    go : (a b c d : Bool) → T (a || b || c) ↔ ((k : Clause) × (cond a (Met Answer) (cond b (Met Stutter) (cond c (Met Match) (cond d (Failed Apart) (Failed Rank)))) ≡ Met k))
     go true b c d = (λ h. (Answer, refl), λ h. tt)
     go false true c d = (λ h. (Stutter, refl), λ h. tt)
     go false false true d = (λ h. (Match, refl), λ h. tt)

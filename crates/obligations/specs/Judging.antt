@@ -7,6 +7,7 @@ use lib.Dec.{eqb}
 use Rattle.bisimulation.specs.Systems.{System, View, Ranks, flip, swap}
 use Rattle.tables.specs.declared.Answer.{Answer}
 use Rattle.obligations.specs.Obligation.{clauseNumber, causeNumber, obligationAt}
+use Rattle.obligations.specs.CheckAnswers.{labelsAnswer, stepAnswer}
 use Rattle.obligations.specs.declared.Clause.{Clause}
 use Rattle.obligations.specs.declared.Outcome.{Outcome}
 use Rattle.obligations.specs.declared.Outcome.the-variants.{Met, Failed}
@@ -34,7 +35,7 @@ pairChecks v s t = labelsOf s t ∷ map (leftStep s t) (stepsFrom (v .own) s) ++
 unfoldable pub checks : View → List Check
 checks v = joinBelow (v .own .states) (λ s. joinBelow (v .other .states) (λ t. cond (v .related s t) (pairChecks v s t) []))
 
--- What becomes of a check: it passes, it is met by a clause, or it stops the judge with six numbers. Side is 0 left, 1 right.
+-- What becomes of a check: it passes, it is met by a clause, or it stops the judge with six numbers.
 pub data Result : Type 0 where
   passes : Result
   metBy : Clause → Result
@@ -42,10 +43,10 @@ pub data Result : Type 0 where
 
 abbrev pub stepResult : ℕ → ℕ → ℕ → ℕ → Outcome → Result
 stepResult side s t j (Met clause) = metBy clause
-stepResult side s t j (Failed cause) = stops (record { code = causeNumber cause; file = 2; a = side; b = s; c = t; d = j })
+stepResult side s t j (Failed cause) = stops (stepAnswer (causeNumber cause) side s t j)
 
 unfoldable pub result : View → Ranks → Check → Result
-result v r (labelsOf s t) = cond (eqb (v .own .label s) (v .other .label t)) passes (stops (record { code = 17; file = 2; a = s; b = t; c = 0; d = 0 }))
+result v r (labelsOf s t) = cond (eqb (v .own .label s) (v .other .label t)) passes (stops (labelsAnswer s t))
 result v r (leftStep s t j) = stepResult 0 s t j (obligationAt v r j t)
 result v r (rightStep s t j) = stepResult 1 s t j (obligationAt (flip v) (swap r) j s)
 

@@ -1,2 +1,3 @@
 pub mod Obligation
+pub mod CheckAnswers
 pub mod Judging

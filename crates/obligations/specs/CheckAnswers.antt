@@ -1,0 +1,19 @@
+-- The six numbers of what is refused after the files are read (document 01, What is turned away): the file is 2, and side is 0 left, 1 right.
+use Prim.Native.Nat.{ℕ}
+use Rattle.tables.specs.declared.Answer.{Answer}
+
+-- 16: the starts.
+abbrev pub startsAnswer : ℕ → ℕ → Answer
+startsAnswer s t = record { code = 16; file = 2; a = s; b = t; c = 0; d = 0 }
+
+-- 17: the pair.
+abbrev pub labelsAnswer : ℕ → ℕ → Answer
+labelsAnswer s t = record { code = 17; file = 2; a = s; b = t; c = 0; d = 0 }
+
+-- 18, 19 and 22: the side, the pair and the step.
+abbrev pub stepAnswer : ℕ → ℕ → ℕ → ℕ → ℕ → Answer
+stepAnswer code side s t j = record { code = code; file = 2; a = side; b = s; c = t; d = j }
+
+-- 23: the side, the fixed state and the first state of the chain.
+abbrev pub chainAnswer : ℕ → ℕ → ℕ → Answer
+chainAnswer side b c = record { code = 23; file = 2; a = side; b = b; c = c; d = 0 }
