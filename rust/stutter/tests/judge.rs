@@ -1,6 +1,6 @@
 //! The proved judge, through the C interface, beside the oracle.
 
-use inputs::JudgeCases;
+use inputs::{spaced, JudgeCases};
 
 #[test]
 fn the_judge_equals_the_oracle() {
@@ -44,18 +44,12 @@ fn a_longer_answer_keeps_its_tail() {
 #[test]
 fn only_the_bytes_of_the_files_are_read() {
     for case in JudgeCases::new(24, 2_000) {
-        let files = [&case.left, &case.right, &case.certificate];
+        let files = [&case.left[..], &case.right, &case.certificate];
         let [left, right, certificate] = files;
         let expected = oracle::judge(left, right, certificate);
         for filler in [0x00, 0x01, 0xff] {
-            let mut buffer = vec![filler; 16];
-            let mut places = Vec::new();
-            for file in files {
-                places.push(buffer.len()..buffer.len() + file.len());
-                buffer.extend(file);
-                buffer.extend([filler; 16]);
-            }
-            let [left, right, certificate] = [0, 1, 2].map(|i| &buffer[places[i].clone()]);
+            let (buffer, places) = spaced(files, filler);
+            let [left, right, certificate] = places.map(|place| &buffer[place]);
             assert_eq!(stutter::judge(left, right, certificate), expected);
         }
     }

@@ -1,6 +1,6 @@
 //! The proved maker, through the C interface, beside the oracle.
 
-use inputs::{all_related, long_chains, long_distances, MakeCases, Random};
+use inputs::{all_related, long_chains, long_distances, spaced, MakeCase, MakeCases, Random};
 
 /// The proved maker, and the proved judge on each certificate that it makes.
 fn make_and_judge(left: &[u8], right: &[u8], relation: &[u8], output: &mut [u8]) -> [u64; 6] {
@@ -50,6 +50,10 @@ fn a_small_stack_is_enough() {
     }
 }
 
+fn make_into(case: &MakeCase, output: &mut [u8], answer: &mut [u64]) -> bool {
+    stutter::make_into(&case.left, &case.right, &case.relation, output, answer)
+}
+
 /// With fewer than six places neither they nor the output change.
 #[test]
 fn a_short_answer_leaves_all_alone() {
@@ -59,13 +63,7 @@ fn a_short_answer_leaves_all_alone() {
         for length in 0..6 {
             let places: Vec<u64> = (0..length).map(|i| u64::MAX - i).collect();
             let (mut answer, mut output) = (places.clone(), pattern.clone());
-            let had_room = stutter::make_into(
-                &case.left,
-                &case.right,
-                &case.relation,
-                &mut output,
-                &mut answer,
-            );
+            let had_room = make_into(&case, &mut output, &mut answer);
             assert!(!had_room, "{length} places");
             assert_eq!(answer, places, "{length} places");
             assert_eq!(output, pattern, "{length} places");
@@ -87,13 +85,7 @@ fn a_longer_answer_keeps_its_tail() {
         for length in 6..12 {
             let places: Vec<u64> = (0..length).map(|i| u64::MAX - i).collect();
             let (mut answer, mut output) = (places.clone(), vec![0x5a; case.output_length]);
-            let had_room = stutter::make_into(
-                &case.left,
-                &case.right,
-                &case.relation,
-                &mut output,
-                &mut answer,
-            );
+            let had_room = make_into(&case, &mut output, &mut answer);
             assert!(had_room, "{length} places");
             assert_eq!(answer[..6], expected, "{length} places");
             assert_eq!(answer[6..], places[6..], "{length} places");
@@ -107,19 +99,13 @@ fn a_longer_answer_keeps_its_tail() {
 #[test]
 fn only_the_bytes_lent_are_touched() {
     for case in MakeCases::new(28, 3_000) {
-        let files = [&case.left, &case.right, &case.relation];
+        let files = [&case.left[..], &case.right, &case.relation];
         let [left, right, relation] = files;
         let mut expected_output = vec![0x5a; case.output_length];
         let expected = oracle::make(left, right, relation, &mut expected_output);
         for filler in [0x00, 0x01, 0xff] {
-            let mut buffer = vec![filler; 16];
-            let mut places = Vec::new();
-            for file in files {
-                places.push(buffer.len()..buffer.len() + file.len());
-                buffer.extend(file);
-                buffer.extend([filler; 16]);
-            }
-            let [left, right, relation] = [0, 1, 2].map(|i| &buffer[places[i].clone()]);
+            let (buffer, places) = spaced(files, filler);
+            let [left, right, relation] = places.map(|place| &buffer[place]);
 
             let around = [filler; 16];
             let mut output = around.to_vec();
