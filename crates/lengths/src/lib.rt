@@ -17,16 +17,6 @@ struct Lengths {
     at: [u8; 64],
 }
 
-// The match distances of the own steps: that of step j at t stands at 64 j + t.
-pub struct Distances {
-    pub at: [u8; 16384],
-}
-
-// Chain lengths at all states of the other side: that at t from s stands at 64 t + s.
-pub struct Chains {
-    pub at: [u8; 4096],
-}
-
 // Steps that are kept, both ends of each, and how many they are.
 struct Kept {
     steps: [u8; 512],
@@ -155,9 +145,9 @@ fn put(lengths: Lengths, row: &mut [u8])
     }
 }
 
-// The match distances of all own steps, row by row. Past the last step the rows stay zeros.
-pub fn all_distances(related: &[u64], own: &[u8], other: &[u8], n: u8) -> Distances
-    ensures { λ r. ⌜ r .at ≡ grid 256 64 (distanceAt (sideOf (now (related .entry)) (now (own .entry)) (now (other .entry)) n)) ⌝ }
+// The match distances of all own steps, row by row: that of step j at t stands at 64 j + t. Past the last step the rows stay zeros.
+pub fn all_distances(related: &[u64], own: &[u8], other: &[u8], n: u8) -> [u8; 16384]
+    ensures { λ r. ⌜ r ≡ grid 256 64 (distanceAt (sideOf (now (related .entry)) (now (own .entry)) (now (other .entry)) n)) ⌝ }
 {
     let count = step_count(own);
     let mut at = [0u8; 16384];
@@ -170,7 +160,7 @@ pub fn all_distances(related: &[u64], own: &[u8], other: &[u8], n: u8) -> Distan
         a = e;
         j += 1;
     }
-    Distances { at }
+    at
 }
 
 // Whether the own step j may stand in a chain at t, by a table of distances.
@@ -252,9 +242,9 @@ fn chains_at(related: &[u64], own: &[u8], distances: &[u8], n: u8, t: usize, k: 
     chain_lengths(&steps[0..e], k)
 }
 
-// The most steps in a chain, of at most k, at each state of the other side, row by row.
-pub fn all_chains(related: &[u64], own: &[u8], distances: &[u8], n: u8, k: u8) -> Chains
-    ensures { λ r. ⌜ r .at ≡ grid 64 64 (chainBy (now (related .entry)) (now (own .entry)) (now (distances .entry)) n k) ⌝ }
+// The most steps in a chain, of at most k, at each state of the other side, row by row: that at t from s stands at 64 t + s.
+pub fn all_chains(related: &[u64], own: &[u8], distances: &[u8], n: u8, k: u8) -> [u8; 4096]
+    ensures { λ r. ⌜ r ≡ grid 64 64 (chainBy (now (related .entry)) (now (own .entry)) (now (distances .entry)) n k) ⌝ }
 {
     let mut at = [0u8; 4096];
     let mut a: usize = 0;
@@ -266,5 +256,5 @@ pub fn all_chains(related: &[u64], own: &[u8], distances: &[u8], n: u8, k: u8) -
         a = e;
         t += 1;
     }
-    Chains { at }
+    at
 }

@@ -16,34 +16,12 @@ use table_reader::table_answer;
 use tables::Answer;
 use tables::steps;
 ghost use mathlib.Core.Path.{_≡_};
-ghost use Rattle.lists.specs.Lists.{grid};
-ghost use Rattle.lengths.specs.Side.{sideOf};
-ghost use Rattle.lengths.specs.Cells.{distanceAt};
-ghost use Rattle.lengths.specs.Chains.{chainBy};
 ghost use Prim.Native.Nat.{_≤_};
 ghost use lib.ListN.{length};
 ghost use Rattle.tables.specs.Table.{startOf};
 ghost use Rattle.certificates.specs.Layout.{sizesOf, certificateLength};
 ghost use Rattle.tables.specs.Answers.{blank};
 ghost use Rattle.ranking.specs.Make.{relationThen, DrawingRead, fileFor, madeAnswer, outputAfter, makeAnswer, makeOutput};
-
-// The match distances and the chain lengths of a side: that of step j at t stands at 64 j + t, that at t from s at 64 t + s.
-struct Measures {
-    distances: [u8; 16384],
-    chains: [u8; 4096],
-}
-
-// The measures of a side with k states, against the other side with n.
-fn measure(related: &[u64], own: &[u8], other: &[u8], n: u8, k: u8) -> Measures
-    ensures distances { λ r. ⌜ r .distances ≡ grid 256 64 (distanceAt (sideOf (now (related .entry)) (now (own .entry)) (now (other .entry)) n)) ⌝ }
-    ensures chains { λ r. ⌜ r .chains ≡ grid 64 64 (chainBy (now (related .entry)) (now (own .entry)) (r .distances) n k) ⌝ }
-{
-    let found = all_distances(related, own, other, n);
-    let distances = found.at;
-    let longest = all_chains(related, own, &distances, n, k);
-    let chains = longest.at;
-    Measures { distances, chains }
-}
 
 // The answer of a relation's read that is refused; for any other it is blank.
 fn relation_answer(read: RelationRead) -> Answer
@@ -71,21 +49,21 @@ fn make_read(left: &[u8], right: &[u8], drawing: &[u8], starts: Starts, output: 
     let sizes = Sizes::of(left, right);
     let rows = row_words(drawing, sizes.n1 as usize);
     let columns = column_words(&rows);
-    let ours = measure(&rows, steps(left), steps(right), sizes.n2, sizes.n1);
-    let theirs = measure(&columns, steps(right), steps(left), sizes.n1, sizes.n2);
-    let distances = ours.distances;
-    let chains = ours.chains;
-    let others = theirs.distances;
-    let loops = theirs.chains;
+    let ours = steps(left);
+    let theirs = steps(right);
+    let distances = all_distances(&rows, ours, theirs, sizes.n2);
+    let distances2 = all_distances(&columns, theirs, ours, sizes.n1);
+    let chains = all_chains(&rows, ours, &distances, sizes.n2, sizes.n1);
+    let chains2 = all_chains(&columns, theirs, &distances2, sizes.n1, sizes.n2);
     let examined = examine(
         left,
         right,
         &rows,
         &columns,
         &distances,
-        &others,
+        &distances2,
         &chains,
-        &loops,
+        &chains2,
         starts,
     );
     match examined {
@@ -98,8 +76,8 @@ fn make_read(left: &[u8], right: &[u8], drawing: &[u8], starts: Starts, output: 
                 &chains,
                 &distances,
                 &columns,
-                &loops,
-                &others,
+                &chains2,
+                &distances2,
                 output,
             );
             Answer {

@@ -20,16 +20,46 @@ use borrow.Author.Needs.{needs}
 use Rattle.ranking.proofs.make_read.Statement.{statement}
 use Rattle.ranking.proofs.make_read.Tie as tie
 
--- what was worked out before the examination
-drawing-bytes : (c : tie.After-rows3) → AreBytes (now (c .before .before .before .before .before .before .before .before .before .before .before .before .before .before .before .before .before .before .before .before .before .before .args .drawing))
-drawing-bytes c = λ i. omega (arith, c .before .before .before .before .before .before .before .before .before .before .before .before .before .before .before .before .before .before .before .shared-slice-known3 .given i)
+-- ---- once all is worked out: what the calls gave
 
-work : (c : tie.After-rows3) → let a = c .before .before .before .before .before .before .before .before .before .before .before .before .before .before .before .before .before .before .before .before .before .before .args in
-    Worked (now (a .left)) (now (a .right)) (now (a .drawing)) (c .before .before .before .before .before .before .before .before .before .before .before .before .before .before .before .before .before .before .before .before .before .before .pre .0) (drawing-bytes c) (c .before .before .before .before .before .before .before .before .before .before .before .before .before .before .before .row-words .result) (c .before .before .before .before .before .before .before .before .before .before .before .before .before .column-words .result) (c .before .before .before .before .before .before .before .before .before .measure .result .distances) (c .before .before .before .before .before .measure2 .result .distances) (c .before .before .before .before .before .before .before .before .before .measure .result .chains) (c .before .before .before .before .before .measure2 .result .chains)
+abbrev start : tie.After-all-chains2 → tie.Start
+start c = c .before .before .before .before .before .before .before .before .before .before .before .before .before .before .before .before .before .before .before .before .before
+
+drawing-bytes : (c : tie.After-all-chains2) → AreBytes (now (start c .args .drawing))
+drawing-bytes c = λ i. omega (arith, c .before .before .before .before .before .before .before .before .before .before .before .before .before .before .before .before .before .before .shared-slice-known3 .given i)
+
+work : (c : tie.After-all-chains2)
+    → Worked (now (start c .args .left)) (now (start c .args .right)) (now (start c .args .drawing)) (start c .pre .0) (drawing-bytes c)
+    (c .before .before .before .before .before .before .before .before .before .before .before .before .before .before .row-words .result) (c .before .before .before .before .before .before .before .before .before .before .before .before .column-words .result)
+    (c .before .before .before .before .before .before .before .before .all-distances .result) (c .before .before .before .before .before .before .all-distances2 .result)
+    (c .before .before .before .all-chains .result) (c .all-chains2 .result)
 work c =
-    let a = c .before .before .before .before .before .before .before .before .before .before .before .before .before .before .before .before .before .before .before .before .before .before .args in
-    worked (now (a .left)) (now (a .right)) (now (a .drawing)) (c .before .before .before .before .before .before .before .before .before .before .before .before .before .before .before .before .before .before .before .before .before .before .pre .0) (drawing-bytes c) (c .before .before .before .before .before .before .before .before .before .before .before .before .before .before .before .before .before .of .ensures) (c .before .before .before .before .before .before .before .before .before .before .before .before .before .before .before .row-words .ensures) (c .before .before .before .before .before .before .before .before .before .before .before .before .before .column-words .ensures) (c .before .before .before .before .before .before .before .before .before .before .before .steps .ensures) (c .before .before .before .before .before .before .before .before .before .before .steps2 .ensures) (c .before .before .before .before .before .before .before .steps3 .ensures) (c .before .before .before .before .before .before .steps4 .ensures)
-    (c .before .before .before .before .before .before .before .before .before .measure .ensures .0) (c .before .before .before .before .before .before .before .before .before .measure .ensures .1) (c .before .before .before .before .before .measure2 .ensures .0) (c .before .before .before .before .before .measure2 .ensures .1)
+    let ours = c .before .before .before .before .before .before .before .before .before .before .before .steps .ensures in
+    let theirs = c .before .before .before .before .before .before .before .before .before .before .steps2 .ensures in
+    worked (now (start c .args .left)) (now (start c .args .right)) (now (start c .args .drawing)) (start c .pre .0) (drawing-bytes c)
+    (c .before .before .before .before .before .before .before .before .before .before .before .before .before .before .before .before .of .ensures) (c .before .before .before .before .before .before .before .before .before .before .before .before .before .before .row-words .ensures) (c .before .before .before .before .before .before .before .before .before .before .before .before .column-words .ensures) ours theirs theirs ours
+    (c .before .before .before .before .before .before .before .before .all-distances .ensures) (c .before .before .before .all-chains .ensures) (c .before .before .before .before .before .before .all-distances2 .ensures) (c .all-chains2 .ensures)
+
+-- the words and the tables have their lengths
+rows-full : (c : tie.After-all-chains2) → 64 ≡ length (c .before .before .before .before .before .before .before .before .before .before .before .before .before .before .row-words .result)
+rows-full c = sym (ap length (c .before .before .before .before .before .before .before .before .before .before .before .before .before .before .row-words .ensures) ∙ rows-length _ _)
+
+columns-full : (c : tie.After-all-chains2) → 64 ≡ length (c .before .before .before .before .before .before .before .before .before .before .before .before .column-words .result)
+columns-full c = sym (ap length (c .before .before .before .before .before .before .before .before .before .before .before .before .column-words .ensures) ∙ columns-length _)
+
+distances-full : (c : tie.After-all-chains2) → 16384 ≡ length (c .before .before .before .before .before .before .before .before .all-distances .result)
+distances-full c = sym (ap length (c .before .before .before .before .before .before .before .before .all-distances .ensures) ∙ length-grid 256 64 _)
+
+distances2-full : (c : tie.After-all-chains2) → 16384 ≡ length (c .before .before .before .before .before .before .all-distances2 .result)
+distances2-full c = sym (ap length (c .before .before .before .before .before .before .all-distances2 .ensures) ∙ length-grid 256 64 _)
+
+chains-full : (c : tie.After-all-chains2) → 4096 ≡ length (c .before .before .before .all-chains .result)
+chains-full c = sym (ap length (c .before .before .before .all-chains .ensures) ∙ length-grid 64 64 _)
+
+chains2-full : (c : tie.After-all-chains2) → 4096 ≡ length (c .all-chains2 .result)
+chains2-full c = sym (ap length (c .all-chains2 .ensures) ∙ length-grid 64 64 _)
+
+-- ---- the needs
 
 of-requires : tie.Need-of-requires
 of-requires c κs = search needs
@@ -46,47 +76,59 @@ slice-aggregate-column-words c = search needs
 column-words-requires : tie.Need-column-words-requires
 column-words-requires c κs = search needs
 
-slice-aggregate-measure : tie.Need-slice-aggregate-measure
-slice-aggregate-measure c = search needs
-
 steps-requires : tie.Need-steps-requires
 steps-requires c κs = search needs
 
 steps-requires-2 : tie.Need-steps-requires-2
 steps-requires-2 c κs = search needs
 
-measure-requires : tie.Need-measure-requires
-measure-requires c κs = search needs
+slice-aggregate-all-distances : tie.Need-slice-aggregate-all-distances
+slice-aggregate-all-distances c = search needs
 
-slice-aggregate-measure-2 : tie.Need-slice-aggregate-measure-2
-slice-aggregate-measure-2 c = search needs
+all-distances-requires : tie.Need-all-distances-requires
+all-distances-requires c κs = search needs
 
-steps-requires-3 : tie.Need-steps-requires-3
-steps-requires-3 c κs = search needs
+slice-aggregate-all-distances-2 : tie.Need-slice-aggregate-all-distances-2
+slice-aggregate-all-distances-2 c = search needs
 
-steps-requires-4 : tie.Need-steps-requires-4
-steps-requires-4 c κs = search needs
+all-distances-requires-2 : tie.Need-all-distances-requires-2
+all-distances-requires-2 c κs = search needs
 
-measure-requires-2 : tie.Need-measure-requires-2
-measure-requires-2 c κs = search needs
+slice-aggregate-all-chains : tie.Need-slice-aggregate-all-chains
+slice-aggregate-all-chains c = search needs
+
+slice-aggregate-all-chains-2 : tie.Need-slice-aggregate-all-chains-2
+slice-aggregate-all-chains-2 c = search needs
+
+all-chains-requires : tie.Need-all-chains-requires
+all-chains-requires c κs = search needs
+
+slice-aggregate-all-chains-3 : tie.Need-slice-aggregate-all-chains-3
+slice-aggregate-all-chains-3 c = search needs
+
+slice-aggregate-all-chains-4 : tie.Need-slice-aggregate-all-chains-4
+slice-aggregate-all-chains-4 c = search needs
+
+all-chains-requires-2 : tie.Need-all-chains-requires-2
+all-chains-requires-2 c κs = search needs
 
 slice-aggregate-examine : tie.Need-slice-aggregate-examine
-slice-aggregate-examine c = sym (ap length (c .before .before .before .before .before .before .before .before .before .before .before .before .before .before .before .row-words .ensures) ∙ rows-length _ _)
+slice-aggregate-examine c = rows-full (c .before)
 
 slice-aggregate-examine-2 : tie.Need-slice-aggregate-examine-2
-slice-aggregate-examine-2 c = sym (ap length (c .before .before .before .before .before .before .before .before .before .before .before .before .before .before .column-words .ensures) ∙ columns-length _)
+slice-aggregate-examine-2 c = columns-full (c .before .before)
 
 slice-aggregate-examine-3 : tie.Need-slice-aggregate-examine-3
-slice-aggregate-examine-3 c = search needs
+slice-aggregate-examine-3 c = distances-full (c .before .before .before)
 
 slice-aggregate-examine-4 : tie.Need-slice-aggregate-examine-4
-slice-aggregate-examine-4 c = search needs
+slice-aggregate-examine-4 c = distances2-full (c .before .before .before .before)
 
 slice-aggregate-examine-5 : tie.Need-slice-aggregate-examine-5
-slice-aggregate-examine-5 c = sym (ap length (c .before .before .before .before .before .before .before .before .before .before .before .before .before .measure .ensures .1) ∙ length-grid 64 64 _)
+slice-aggregate-examine-5 c = chains-full (c .before .before .before .before .before)
 
 slice-aggregate-examine-6 : tie.Need-slice-aggregate-examine-6
-slice-aggregate-examine-6 c = search needs
+slice-aggregate-examine-6 c = chains2-full (c .before .before .before .before .before .before)
 
 examine-requires : tie.Need-examine-requires
 examine-requires c κs = search needs
@@ -98,22 +140,22 @@ enum-told : tie.Need-enum-told
 enum-told c = search needs
 
 slice-aggregate-write-certificate : tie.Need-slice-aggregate-write-certificate
-slice-aggregate-write-certificate c = sym (ap length (c .before .before .before .before .before .before .before .before .before .before .before .before .before .before .before .before .before .before .before .before .before .before .before .before .row-words .ensures) ∙ rows-length _ _)
+slice-aggregate-write-certificate c = rows-full (c .before .before .before .before .before .before .before .before .before .before)
 
 slice-aggregate-write-certificate-2 : tie.Need-slice-aggregate-write-certificate-2
-slice-aggregate-write-certificate-2 c = sym (ap length (c .before .before .before .before .before .before .before .before .before .before .before .before .before .before .before .before .before .before .before .measure .ensures .1) ∙ length-grid 64 64 _)
+slice-aggregate-write-certificate-2 c = chains-full (c .before .before .before .before .before .before .before .before .before .before .before)
 
 slice-aggregate-write-certificate-3 : tie.Need-slice-aggregate-write-certificate-3
-slice-aggregate-write-certificate-3 c = sym (ap length (c .before .before .before .before .before .before .before .before .before .before .before .before .before .before .before .before .before .before .before .before .measure .ensures .0) ∙ length-grid 256 64 _)
+slice-aggregate-write-certificate-3 c = distances-full (c .before .before .before .before .before .before .before .before .before .before .before .before)
 
 slice-aggregate-write-certificate-4 : tie.Need-slice-aggregate-write-certificate-4
-slice-aggregate-write-certificate-4 c = sym (ap length (c .before .before .before .before .before .before .before .before .before .before .before .before .before .before .before .before .before .before .before .before .before .before .before .before .before .column-words .ensures) ∙ columns-length _)
+slice-aggregate-write-certificate-4 c = columns-full (c .before .before .before .before .before .before .before .before .before .before .before .before .before)
 
 slice-aggregate-write-certificate-5 : tie.Need-slice-aggregate-write-certificate-5
-slice-aggregate-write-certificate-5 c = sym (ap length (c .before .before .before .before .before .before .before .before .before .before .before .before .before .before .before .before .before .before .measure2 .ensures .1) ∙ length-grid 64 64 _)
+slice-aggregate-write-certificate-5 c = chains2-full (c .before .before .before .before .before .before .before .before .before .before .before .before .before .before)
 
 slice-aggregate-write-certificate-6 : tie.Need-slice-aggregate-write-certificate-6
-slice-aggregate-write-certificate-6 c = sym (ap length (c .before .before .before .before .before .before .before .before .before .before .before .before .before .before .before .before .before .before .before .measure2 .ensures .0) ∙ length-grid 256 64 _)
+slice-aggregate-write-certificate-6 c = distances2-full (c .before .before .before .before .before .before .before .before .before .before .before .before .before .before .before)
 
 write-certificate-requires : tie.Need-write-certificate-requires
 write-certificate-requires c κs = search needs
@@ -123,10 +165,11 @@ length-requires c κs = search needs
 
 returns : tie.Need-returns
 returns c =
-    let a = c .before .before .before .before .before .before .before .before .before .before .before .before .before .before .before .before .before .before .before .before .before .before .before .before .before .before .before .before .before .before .before .args in
-    let p = c .before .before .before .before .before .before .before .before .before .before .before .before .before .before .before .before .before .before .before .before .before .before .before .before .before .before .before .before .before .before .before .pre in
+    let w = c .before .before .before .before .before .before .before .before .before .before in
+    let a = start w .args in
+    let p = start w .pre in
     let e = was-refused _ _ (sym (c .before .before .before .examine .ensures) ∙ c .before .examined .given .1) in
-    let q = sym (examined-is (now (a .left)) (now (a .right)) (now (a .drawing)) (p .0) (drawing-bytes (c .before .before .before .before .before .before .before .before .before)) (work (c .before .before .before .before .before .before .before .before .before)) (p .1) (p .2)) ∙ e in
+    let q = sym (examined-is (now (a .left)) (now (a .right)) (now (a .drawing)) (p .0) (drawing-bytes w) (work w) (p .1) (p .2)) ∙ e in
     (stopped-answer (now (a .left)) (now (a .right)) (now (a .drawing)) _ q, stopped-output (now (a .left)) (now (a .right)) (now (a .drawing)) _ q (now (a .output)))
 
 same-length : tie.Need-same-length
@@ -134,16 +177,16 @@ same-length c = search needs
 
 returns-2 : tie.Need-returns-2
 returns-2 c =
-    let a = c .before .before .before .before .before .before .before .before .before .before .before .before .before .before .before .before .before .before .before .before .before .before .before .before .before .before .before .before .before .before .before .before .before .before .before .before .before .before .before .before .before .args in
-    let p = c .before .before .before .before .before .before .before .before .before .before .before .before .before .before .before .before .before .before .before .before .before .before .before .before .before .before .before .before .before .before .before .before .before .before .before .before .before .before .before .before .before .pre in
-    let w = work (c .before .before .before .before .before .before .before .before .before .before .before .before .before .before .before .before .before .before .before) in
+    let w = c .before .before .before .before .before .before .before .before .before .before .before .before .before .before .before .before .before .before .before .before in
+    let a = start w .args in
+    let p = start w .pre in
     let e = was-accepted _ (sym (c .before .before .before .before .before .before .before .before .before .before .before .before .before .examine .ensures) ∙ c .before .before .before .before .before .before .before .before .before .before .before .enum-told .given .1) in
-    let q = sym (examined-is (now (a .left)) (now (a .right)) (now (a .drawing)) (p .0) (drawing-bytes (c .before .before .before .before .before .before .before .before .before .before .before .before .before .before .before .before .before .before .before)) w (p .1) (p .2)) ∙ e in
+    let q = sym (examined-is (now (a .left)) (now (a .right)) (now (a .drawing)) (p .0) (drawing-bytes w) (work w) (p .1) (p .2)) ∙ e in
     let z = c .before .before .before .before .before .before .before .before .before .before .before .before .before .before .before .before .before .before .before .before .before .before .before .before .before .before .before .before .before .before .before .before .before .before .before .before .of .ensures in
     let full = relation-ok _ (now (a .drawing)) (p .0 .drawing-good) .1 .long ∙ ap (λ (x : Sizes). 8 * x .n1) (sym z) in (
       ap (refusal 0 0) (c .length .ensures ∙ ap certificateLength z) ∙ passed-answer (now (a .left)) (now (a .right)) (now (a .drawing)) q,
       c .before .before .before .write-certificate .ensures ∙ written-front _ (now (a .drawing)) _ (now (a .output)) full
-          ∙ ap (λ (f : List ℕ). putFront f (now (a .output))) (written-is (now (a .left)) (now (a .right)) (now (a .drawing)) (p .0) (drawing-bytes (c .before .before .before .before .before .before .before .before .before .before .before .before .before .before .before .before .before .before .before)) w z)
+          ∙ ap (λ (f : List ℕ). putFront f (now (a .output))) (written-is (now (a .left)) (now (a .right)) (now (a .drawing)) (p .0) (drawing-bytes w) (work w) z)
           ∙ passed-output (now (a .left)) (now (a .right)) (now (a .drawing)) q (now (a .output)),
     )
 
@@ -156,14 +199,18 @@ make-read-spec =
     row-words-requires
     slice-aggregate-column-words
     column-words-requires
-    slice-aggregate-measure
     steps-requires
     steps-requires-2
-    measure-requires
-    slice-aggregate-measure-2
-    steps-requires-3
-    steps-requires-4
-    measure-requires-2
+    slice-aggregate-all-distances
+    all-distances-requires
+    slice-aggregate-all-distances-2
+    all-distances-requires-2
+    slice-aggregate-all-chains
+    slice-aggregate-all-chains-2
+    all-chains-requires
+    slice-aggregate-all-chains-3
+    slice-aggregate-all-chains-4
+    all-chains-requires-2
     slice-aggregate-examine
     slice-aggregate-examine-2
     slice-aggregate-examine-3
