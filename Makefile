@@ -4,6 +4,9 @@
 # make bench   speed of the proved judge and the proved maker beside Rust versions, as ratios in one run; no part of the gate
 # make fmt     lay out every file under crates/
 
+# rt waits for the slowest of the crates or edits that it has started together; four at a time leave two cores the least idle.
+export RT_JOBS ?= 4
+
 CARGO_WORDS = --release --offline --quiet --manifest-path rust/Cargo.toml
 
 .PHONY: run test bench fmt
