@@ -22,14 +22,14 @@ fn length_at(input: &[u8], i: usize) -> usize
 }
 
 // Where piece i begins, after its length. It may lie past the end of an input that is cut short.
-pub fn piece_start(input: &[u8], i: u8) -> usize
+fn piece_start(input: &[u8], i: u8) -> usize
     ensures { λ r. ⌜ r ≡ pieceStart (now (input .entry)) i ⌝ }
 {
     length_at(input, i as usize) + 2
 }
 
 // Where piece i ends. It may lie past the end of an input that is cut short.
-pub fn piece_end(input: &[u8], i: u8) -> usize
+fn piece_end(input: &[u8], i: u8) -> usize
     ensures { λ r. ⌜ r ≡ pieceEnd (now (input .entry)) i ⌝ }
 {
     length_at(input, i as usize + 1)
