@@ -1,5 +1,5 @@
 -- The certificate reader's and the relation reader's part of demand 1: each refuses with the number of the first cause that applies to the bytes, and
--- reads where none does; the refusal 15 names the first such row. Each reader is a chain of tests in the order of its causes, and each test decides
+-- reads where none does; the sixNumbers 15 names the first such row. Each reader is a chain of tests in the order of its causes, and each test decides
 -- its cause. Assumes nothing.
 use Prim.Native.Nat.{ℕ, _*_}
 use mathlib.Core.Path.{_≡_, refl}

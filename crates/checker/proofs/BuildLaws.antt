@@ -1,7 +1,7 @@
 -- Laws of building a plan: its words of states one state at a time, and its links from the last step to the first. Assumes nothing.
 use Prim.Native.Nat.{ℕ, suc, _+_, _^_, _≤_, _<_}
 use mathlib.Core.Path.{_≡_, refl, sym, ap, ap₂, _∙_, subst}
-use mathlib.Core.Logic.{inl, inr, ⊎-elim}
+use mathlib.Core.Logic.{⊎-elim}
 use mathlib.Core.Bool.{Bool, _&&_, _||_}
 use mathlib.Core.List.{List}
 use native.Mathlib.Nat.{not-suc-le-zero}
@@ -21,7 +21,7 @@ use Rattle.lists.proofs.BelowLaws.{any-e, any-i, any-cong}
 use Rattle.words.specs.Bits.{hasBit, addBit}
 use Rattle.words.proofs.BitLaws.{has-add-below, has-empty, add-word}
 use Rattle.tables.specs.Table.{labelOf, fromOf, toOf}
-use Rattle.checker.specs.Plan.{stepsIn, NextFrom, StatesPlanned, StepsPlanned, StepsFit, PlanOf, Links}
+use Rattle.checker.specs.Plan.{stepsIn, NextFrom, StatesPlanned, StepsPlanned, StepsFit, PlanOf}
 
 -- ---- three stores in a list
 

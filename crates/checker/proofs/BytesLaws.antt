@@ -6,7 +6,7 @@ use mathlib.Core.Bool.{Bool, true, false, cond, _&&_}
 use mathlib.Core.List.{List, [], _∷_, _++_, map}
 use native.Mathlib.Omega.{arith}
 use lib.Dec.{eqb}
-use lib.ListN.{length, getD}
+use lib.ListN.{getD}
 use Rattle.lists.specs.Below.{anyBelow, sumBelow}
 use borrow.Author.Tests.{lt-ltb}
 use Rattle.lists.proofs.BoolLaws.{not-T-false}
@@ -28,7 +28,7 @@ use Rattle.certificate_reader.proofs.CertificateLaws.{certificate-ok, view-form
 use Rattle.relations.specs.Relation.{rowWords, columnWords}
 use Rattle.relations.proofs.RelationLaws.{rows-has, columns-related, rows-ones}
 use Rattle.obligations.specs.CheckAnswers.{startsAnswer, labelsAnswer}
-use Rattle.obligations.specs.Judging.{verdict, joinBelow, leftStep, rightStep, pairChecks, checks, Result, result, stepsFrom, labelsOf, passes, stops}
+use Rattle.obligations.specs.Judging.{verdict, joinBelow, leftStep, rightStep, pairChecks, checks, Result, result, stepsFrom, passes, stops}
 use Rattle.checker.specs.Progress.{none, progress, endAnswer}
 use Rattle.checker.specs.Judge.{pairsIn, verdictAnswer, judged, judgedBytes}
 use Rattle.checker.specs.Plan.{stepsIn, StepsFit, PlanOf, Small, rankAt, leftRun, rightRun, leftChecks, rightChecks, checksAt, rowChecks, allChecks}

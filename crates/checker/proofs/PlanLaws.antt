@@ -1,13 +1,13 @@
 -- Laws of the results read off a plan: one step's outcome, and the walk along the links of a state's steps. Assumes nothing.
 use Prim.Native.Nat.{ℕ, suc, _+_, _*_, _≤_, _<_}
-use mathlib.Core.Path.{_≡_, refl, sym, ap, _∙_, subst}
+use mathlib.Core.Path.{_≡_, sym, ap, _∙_, subst}
 use mathlib.Core.Bool.{Bool, true, false, cond}
 use mathlib.Core.List.{List, [], _∷_, _++_}
 use native.Mathlib.Nat.{mul-le-mul}
 use native.Mathlib.Numerals.{add-one}
 use native.Mathlib.Omega.{arith}
 use lib.Bits.{bitAnd}
-use lib.Dec.{T, ltb, eqb}
+use lib.Dec.{ltb, eqb}
 use lib.ListN.{length, getD, drop}
 use borrow.Author.Tests.{lt-ltb, eq-eqb, ne-eqb}
 use Rattle.words.specs.Bits.{firstBit}
@@ -19,9 +19,8 @@ use Rattle.obligations.specs.declared.Clause.the-variants.{Answer}
 use Rattle.obligations.specs.declared.Cause.{Cause}
 use Rattle.obligations.proofs.ObligationLaws.{outcome-answer}
 use Rattle.obligations.specs.Obligation.{obligationOf}
-use Rattle.obligations.specs.Judging.{joinBelow, Result, metBy, stops, stepResult}
+use Rattle.obligations.specs.Judging.{Result, stepResult}
 use Rattle.checker.specs.declared.Tally.{Tally}
-use Rattle.checker.specs.declared.Progress.{Progress}
 use Rattle.checker.specs.declared.Progress.the-variants.{On, Stop}
 use Rattle.checker.specs.declared.Run.{Run}
 use Rattle.checker.specs.declared.Place.{Place}

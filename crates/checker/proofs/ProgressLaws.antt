@@ -1,8 +1,7 @@
 -- Laws of the judge's progress: over a list and then another, how many are counted, and what it is at the end. Assumes nothing.
 use Prim.Native.Nat.{ℕ, _+_, _≤_}
-use mathlib.Core.Path.{_≡_, refl, sym, ap, _∙_}
+use mathlib.Core.Path.{_≡_, sym, ap}
 use mathlib.Core.List.{List, [], _∷_, _++_}
-use native.Mathlib.Nat.{le-refl}
 use native.Mathlib.Omega.{arith}
 use lib.ListN.{length}
 use Rattle.tables.specs.declared.Answer.{Answer}
@@ -12,7 +11,7 @@ use Rattle.obligations.specs.declared.Clause.the-variants.{Answer as Answered, 
 use Rattle.checker.specs.declared.Tally.{Tally}
 use Rattle.checker.specs.declared.Progress.{Progress}
 use Rattle.checker.specs.declared.Progress.the-variants.{On, Stop}
-use Rattle.checker.specs.Progress.{addTo, total, after, progress}
+use Rattle.checker.specs.Progress.{addTo, total, progress}
 
 -- a judge that goes on has not stopped
 pub on-not-stop : {y : Tally} {a : Answer} → _≡_ {A = Progress} (On y) (Stop a) → ⊥

@@ -2,7 +2,7 @@
 use Prim.Native.Nat.{ℕ, suc, _+_, _*_, _^_, _≤_, _<_}
 use mathlib.Core.Path.{_≡_, refl, sym, ap, _∙_, subst}
 use mathlib.Core.Bool.{Bool, true, false, not, cond, _&&_}
-use mathlib.Core.List.{List, [], _∷_, _++_}
+use mathlib.Core.List.{List, [], _++_}
 use native.Mathlib.Nat.{mul-le-mul}
 use native.Mathlib.Numerals.{add-one}
 use native.Mathlib.Omega.{arith}
@@ -19,12 +19,11 @@ use Rattle.certificates.specs.Layout.{alAt, arAt, clAt, crAt}
 use Rattle.obligations.specs.CheckAnswers.{labelsAnswer}
 use Rattle.obligations.specs.Judging.{joinBelow, Result}
 use Rattle.checker.specs.declared.Tally.{Tally}
-use Rattle.checker.specs.declared.Progress.{Progress}
 use Rattle.checker.specs.declared.Progress.the-variants.{On, Stop}
 use Rattle.checker.specs.declared.Place.{Place}
 use Rattle.checker.specs.Progress.{total, progress}
 use Rattle.checker.specs.Plan.{stepsIn, Small, Within, leftRun, rightRun, leftChecks, rightChecks, checksAt, rowChecks, allChecks}
-use Rattle.checker.proofs.JoinLaws.{joinFrom, join-cong, from-cong, from-start, from-skip, from-next, from-none, join-none, join-length}
+use Rattle.checker.proofs.JoinLaws.{joinFrom, from-cong, from-start, from-skip, from-next, from-none, join-none, join-length}
 use Rattle.checker.proofs.ProgressLaws.{progress-on, progress-stop, progress-total}
 use Rattle.checker.proofs.PlanLaws.{step-checks-few}
 

@@ -1,29 +1,25 @@
 -- The checks that the judge reads off its plans are the theory's checks in judging order, and its progress over them is their verdict and counts.
 -- A side is a view: the left side's checks and the right side's are one law, cited for a view and for its flip. Assumes nothing.
-use Prim.Native.Nat.{ℕ, _+_, _*_, _^_, _≤_, _<_}
-use mathlib.Core.Path.{_≡_, refl, sym, ap, ap₂, _∙_, subst}
+use Prim.Native.Nat.{ℕ, _+_, _*_, _^_, _<_}
+use mathlib.Core.Path.{_≡_, refl, sym, ap, _∙_}
 use mathlib.Core.Bool.{Bool, true, false, cond, _&&_, and-true}
-use mathlib.Core.List.{List, [], _∷_, _++_, map}
+use mathlib.Core.List.{List, [], _∷_, map}
 use native.Mathlib.Nat.{add-assoc}
 use native.Mathlib.Omega.{arith}
 use lib.Dec.{T, eqb, eqb→eq}
-use lib.ListN.{length, getD, drop}
+use lib.ListN.{getD, drop}
 use lib.Seq.{getD-drop}
-use borrow.Author.Tests.{eq-eqb, eqb-true}
 use Rattle.lists.specs.Below.{anyBelow}
 use Rattle.lists.specs.Numbers.{byteAt}
 use Rattle.lists.proofs.BelowLaws.{any-cong}
-use Rattle.lists.proofs.BoolLaws.{T-dec}
 use Rattle.words.specs.Bits.{hasBit}
-use Rattle.bisimulation.specs.Systems.{System, View, Ranks, flip, swap}
+use Rattle.bisimulation.specs.Systems.{System, View, Ranks}
 use Rattle.tables.specs.Table.{fromOf, toOf}
 use Rattle.tables.specs.declared.Answer.{Answer}
 use Rattle.obligations.specs.Obligation.{obligationAt, Faces, Ranked}
-use Rattle.obligations.specs.Judging.{joinBelow, stepsFrom, Check, leftStep, rightStep, pairChecks, checks, Result, passes, metBy, stops, stepResult, result, Verdict, accepted, refusedWith, andThen, verdict, isBy, countBy}
-use Rattle.obligations.specs.declared.Clause.{Clause}
+use Rattle.obligations.specs.Judging.{joinBelow, stepsFrom, Check, checks, Result, passes, metBy, stops, stepResult, result, Verdict, accepted, refusedWith, andThen, verdict, isBy, countBy}
 use Rattle.obligations.specs.declared.Clause.the-variants.{Answer as Answered, Stutter as Stuttered, Match as Matched}
 use Rattle.obligations.specs.declared.Outcome.{Outcome}
-use Rattle.obligations.specs.declared.Outcome.the-variants.{Met, Failed}
 use Rattle.obligations.proofs.ObligationLaws.{obligation-is}
 use Rattle.checker.specs.declared.Tally.{Tally}
 use Rattle.checker.specs.declared.Progress.{Progress}

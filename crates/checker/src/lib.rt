@@ -25,7 +25,6 @@ use tables::steps;
 use tables::to;
 use words::Row;
 ghost use mathlib.Core.Path.{_≡_};
-ghost use mathlib.Core.List.{_++_};
 ghost use Prim.Native.Nat.{_+_, _*_, _^_, _≤_, _<_};
 ghost use lib.ListN.{length, getD, drop};
 ghost use Rattle.tables.specs.Table.{statesOf};
@@ -36,7 +35,6 @@ ghost use Rattle.checker.specs.Progress.{none, addTo, total, progress, e
 ghost use Rattle.checker.specs.Plan.{stepsIn, StatesPlanned, StepsPlanned, StepsFit, PlanOf, Links, Small, Within, leftRun, rightRun, failedAt, rankAt, outcomeAt, stepChecks, checksAt, rowChecks, allChecks};
 ghost use Rattle.checker.specs.Judge.{certificateThen, AllRead, judgedBytes, judgeAnswer};
 ghost use Rattle.tables.specs.Answers.{blank};
-ghost use Rattle.table_reader.specs.TableAnswers.{tableThen};
 
 // How many obligations each clause has met.
 struct Tally {

@@ -1,10 +1,10 @@
 -- Ranks that agree inside the tables: what one is accepted with, the other is too. Assumes nothing.
 use Prim.Native.Nat.{ℕ, _<_}
-use mathlib.Core.Path.{_≡_, sym, subst}
-use mathlib.Core.Logic.{_⊎_, inl, inr}
+use mathlib.Core.Path.{_≡_}
+use mathlib.Core.Logic.{inl, inr}
 use lib.Dec.{T}
-use Rattle.bisimulation.specs.Systems.{View, Ranks, SideFormed, WellFormed, flip, swap}
-use Rattle.bisimulation.specs.Clauses.{Meets, EveryObligation, Certified}
+use Rattle.bisimulation.specs.Systems.{View, Ranks, WellFormed, flip, swap}
+use Rattle.bisimulation.specs.Clauses.{Meets, EveryObligation}
 use Rattle.bisimulation.specs.Judge.{accepts}
 use Rattle.bisimulation.proofs.ClauseLaws.{flip-formed, accepts-iff}
 

@@ -1,6 +1,6 @@
 -- Laws of the checks as statements: a check goes on exactly where it passes, it stops exactly where it fails and with these numbers, and it is
 -- counted under the clause that meets it. Assumes nothing.
-use Prim.Native.Nat.{ℕ, zero, suc, _+_, _<_}
+use Prim.Native.Nat.{ℕ, _+_, _<_}
 use mathlib.Core.Path.{_≡_, refl, sym, ap, _∙_, subst}
 use mathlib.Core.Logic.{_⊎_, inl, inr, ⊎-elim}
 use mathlib.Core.Bool.{Bool, true, false, not, cond, _&&_}
@@ -9,19 +9,19 @@ use native.Mathlib.Omega.{arith}
 use lib.Dec.{T, eqb, eqb→eq}
 use borrow.Author.Tests.{ne-eqb}
 use Rattle.lists.specs.Lists.{All}
-use Rattle.lists.proofs.BoolLaws.{and-l, and-r, and-i, eq→eqb, T-dec}
+use Rattle.lists.proofs.BoolLaws.{and-l, and-r, and-i, eq→eqb}
 use Rattle.lists.proofs.BelowLaws.{any-e, any-i}
 use Rattle.bisimulation.specs.Systems.{View, Ranks, flip, swap}
 use Rattle.bisimulation.specs.Judge.{is2a, is2b, is2c}
-use Rattle.bisimulation.specs.Clauses.{Meets2a, Meets2b, Meets2c, Meets}
+use Rattle.bisimulation.specs.Clauses.{Meets2a, Meets2b, Meets2c}
 use Rattle.bisimulation.specs.Triples.{ahead}
 use Rattle.bisimulation.proofs.ClauseLaws.{is2a-e, is2a-i, is2b-e, is2b-i, is2c-e, is2c-i, met-e, met-i}
 use Rattle.tables.specs.declared.Answer.{Answer}
 use Rattle.obligations.specs.Obligation.{outcomeOf, isApart, obligationAt}
-use Rattle.obligations.specs.Judging.{Check, labelsOf, leftStep, rightStep, Result, passes, metBy, stops, stepResult, result, isBy, countBy, Verdict, refusedWith, verdict, andThen}
+use Rattle.obligations.specs.Judging.{Check, labelsOf, leftStep, rightStep, Result, passes, metBy, stops, stepResult, result, isBy, countBy, refusedWith, verdict, andThen}
 use Rattle.obligations.specs.declared.Clause.{Clause}
 use Rattle.obligations.specs.declared.Clause.the-variants.{Answer as Answered, Stutter as Stuttered, Match as Matched}
-use Rattle.obligations.proofs.JudgingLaws.{goes, Goes, step-i, step-e, label-i, label-e, FirstStop, refused-first-stop}
+use Rattle.obligations.proofs.JudgingLaws.{goes, Goes, step-i, step-e, label-i, label-e, refused-first-stop}
 use Rattle.obligations.specs.CheckAnswers.{labelsAnswer, stepAnswer}
 use Rattle.demands.specs.Checks.{Apart, Unmet, Passes, Fails, FirstFailure, ByAnswer, ByStutter, ByMatch, Counts}
 

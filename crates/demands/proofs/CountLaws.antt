@@ -1,6 +1,6 @@
 -- How many obligations there are: the steps from s plus the steps from t over all related pairs, and at most m1 n2 + m2 n1. Assumes nothing.
-use Prim.Native.Nat.{ℕ, zero, suc, _+_, _*_, _≤_, _<_, suc-le-suc, zero-le}
-use mathlib.Core.Path.{_≡_, refl, sym, ap, ap₂, _∙_}
+use Prim.Native.Nat.{ℕ, zero, suc, _+_, _*_, _≤_, zero-le}
+use mathlib.Core.Path.{_≡_, refl, sym, ap, _∙_}
 use mathlib.Core.Bool.{Bool, true, false, cond}
 use mathlib.Core.List.{List, [], _∷_, _++_, map}
 use native.Mathlib.Nat.{mul-le-mul, le-refl, mul-comm, suc-mul, zero-mul, mul-zero, mul-add}
@@ -13,7 +13,7 @@ use borrow.Author.Tests.{lt-ltb, le-ltb, eq-eqb, ne-eqb}
 use Rattle.lists.specs.Below.{sumBelow, countBelow}
 use Rattle.lists.proofs.BelowLaws.{sum-cong, sum-le, sum-more}
 use Rattle.bisimulation.specs.Systems.{System, View}
-use Rattle.obligations.specs.Judging.{joinBelow, stepsFrom, Check, labelsOf, leftStep, rightStep, pairChecks, checks, isObligation, countObligations}
+use Rattle.obligations.specs.Judging.{joinBelow, stepsFrom, Check, leftStep, rightStep, pairChecks, checks, countObligations}
 use Rattle.demands.specs.Judged.{degree, obligationsOf}
 
 -- ---- the obligations of the list of checks

@@ -1,19 +1,18 @@
 -- The judge's answer, case by case: which file is refused, or which check, or none. Everything that is said of the answer goes by these six cases.
 -- Assumes nothing.
-use Prim.Native.Nat.{ℕ, _≤_, _<_}
-use mathlib.Core.Path.{_≡_, refl, sym, ap, _∙_, subst}
-use mathlib.Core.Logic.{_⊎_, inl, inr}
-use mathlib.Core.Bool.{Bool, true, false, cond}
+use Prim.Native.Nat.{ℕ}
+use mathlib.Core.Path.{_≡_, refl, sym, _∙_, subst}
+use mathlib.Core.Logic.{inl, inr}
+use mathlib.Core.Bool.{Bool, true, false}
 use mathlib.Core.List.{List}
 use native.Mathlib.Omega.{arith}
 use lib.Dec.{T}
 use Rattle.bisimulation.specs.Systems.{View, Ranks, flip, swap}
 use Rattle.tables.specs.Table.{statesOf, startOf}
-use Rattle.table_reader.specs.TableReading.{headOf, readTable}
+use Rattle.table_reader.specs.TableReading.{readTable}
 use Rattle.table_reader.specs.TableAnswers.{tableAnswer}
 use Rattle.table_reader.specs.Conditions.{NoneApplies, tableCauses}
 use Rattle.tables.specs.declared.Answer.{Answer}
-use Rattle.tables.specs.declared.Head.{Head}
 use Rattle.table_reader.specs.declared.TableRefusal.{TableRefusal}
 use Rattle.table_reader.specs.declared.TableRead.{TableRead}
 use Rattle.table_reader.specs.declared.TableRead.the-variants as table
@@ -21,7 +20,6 @@ use Rattle.table_reader.proofs.ConditionLaws.{good-none, none-good}
 use Rattle.certificates.specs.Layout.{sizesOf, rowsPart}
 use Rattle.certificate_reader.specs.CertificateReading.{readCertificate}
 use Rattle.certificate_reader.specs.CertificateAnswers.{certificateAnswer}
-use Rattle.certificate_reader.specs.CertificateConditions.{certificateCauses}
 use Rattle.certificates.specs.declared.Sizes.{Sizes}
 use Rattle.certificate_reader.specs.declared.CertificateRefusal.{CertificateRefusal}
 use Rattle.certificate_reader.specs.declared.CertificateRefusal.the-variants as refused
@@ -32,10 +30,9 @@ use Rattle.obligations.specs.CheckAnswers.{startsAnswer}
 use Rattle.obligations.specs.Judging.{Check, labelsOf, leftStep, rightStep, checks, Verdict, accepted, refusedWith, verdict}
 use Rattle.checker.specs.Judge.{pairsIn, verdictAnswer, judged, judgedBytes, judgeAnswer}
 use Rattle.checker.proofs.JudgeLaws.{left-answer, right-answer, certificate-answer, all-read}
-use Rattle.demands.specs.Checks.{Unmet, Fails, FirstFailure}
+use Rattle.demands.specs.Checks.{Unmet, Fails}
 use Rattle.demands.specs.Judged.{view, ranks, AllWellFormed, StartsRelated}
 use Rattle.demands.proofs.TableRefusals.{Numbers, numbers-of}
-use Rattle.demands.proofs.CheckLaws.{refused-first-failure}
 
 -- ---- the numbers of refusals
 
@@ -59,9 +56,6 @@ failure-numbers v r (rightStep s t j) a f = unmet-numbers (flip v) (swap r) j s 
 -- ---- the six cases
 
 module _ (left right c : List ℕ) where
-  abbrev Left : TableRefusal → Type 0
-  Left r = (readTable left ≡ table.Refused r) × (judgeAnswer left right c ≡ tableAnswer r 0)
-
   pub data Case : Type 0 where
     by-left : (r : TableRefusal) → readTable left ≡ table.Refused r → judgeAnswer left right c ≡ tableAnswer r 0 → Case
     by-right : (r : TableRefusal) → NoneApplies (tableCauses left) → readTable right ≡ table.Refused r → judgeAnswer left right c ≡ tableAnswer r 1 → Case

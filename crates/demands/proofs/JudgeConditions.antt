@@ -1,11 +1,10 @@
 -- Demand 1 for the judge: it answers k exactly where the condition of k holds and none earlier does, succeeds exactly where none holds, and a to d name
 -- the first such step, row, pair or check. Assumes nothing.
-use Prim.Native.Nat.{ℕ, _≤_, _<_}
+use Prim.Native.Nat.{ℕ, _≤_}
 use mathlib.Core.Path.{_≡_, refl, sym, ap, _∙_, subst}
-use mathlib.Core.Logic.{_↔_, _⊎_, inl, inr, ⊎-elim}
+use mathlib.Core.Logic.{_⊎_, inl, inr, ⊎-elim}
 use mathlib.Core.List.{List}
 use native.Mathlib.Omega.{arith}
-use lib.Dec.{T}
 use lib.ListN.{getD}
 use Rattle.lists.specs.Below.{IsFirstBelow}
 use Rattle.lists.specs.Lists.{All}
@@ -26,7 +25,7 @@ use Rattle.certificate_reader.specs.CertificateConditions.{certificateCauses, c
 use Rattle.certificate_reader.specs.declared.CertificateRefusal.{CertificateRefusal}
 use Rattle.certificate_reader.specs.declared.CertificateRefusal.the-variants as refused
 use Rattle.certificate_reader.specs.declared.CertificateRead.the-variants as certificate
-use Rattle.certificate_reader.proofs.CertificateConditionLaws.{certificate-refused-first, first-certificate-refused, certificate-none-good, certificate-row-first}
+use Rattle.certificate_reader.proofs.CertificateConditionLaws.{certificate-refused-first, first-certificate-refused, certificate-row-first}
 use Rattle.obligations.specs.CheckAnswers.{startsAnswer}
 use Rattle.obligations.specs.Judging.{checks, accepted, refusedWith, verdict}
 use Rattle.obligations.proofs.JudgingLaws.{verdict-i, verdict-e}

@@ -1,21 +1,17 @@
 -- Demand 2 on bytes: `judge-exact` says which certificates the judge accepts, with which counts, and how their ranks and the paper's meet. The key is that
 -- the verdict over the checks in judging order, with the starts before it, is the theory's judge on the systems, relation and ranks that the bytes give;
 -- what the theory says of its judge is then said of the bytes. Assumes nothing.
-use Prim.Native.Nat.{ℕ, _+_, _*_, _≤_, _<_}
+use Prim.Native.Nat.{ℕ, _+_, _*_, _≤_}
 use mathlib.Core.Path.{_≡_, refl, sym, ap, _∙_, subst}
 use mathlib.Core.Logic.{_↔_}
-use mathlib.Core.Bool.{Bool, _&&_}
 use mathlib.Core.List.{List}
 use native.Mathlib.Omega.{arith}
-use lib.Dec.{T, eqb}
+use lib.Dec.{T}
 use Rattle.lists.specs.Below.{sumBelow}
 use Rattle.lists.proofs.BoolLaws.{and-l, and-r, and-i}
 use Rattle.words.specs.Bits.{countBits}
-use Rattle.bisimulation.specs.Systems.{View, Ranks, WellFormed, NoTwice, flip, swap, InitialRelated}
-use Rattle.bisimulation.specs.Clauses.{Meets, Certified}
+use Rattle.bisimulation.specs.Systems.{WellFormed, NoTwice, flip, swap, InitialRelated}
 use Rattle.bisimulation.specs.Judge.{initialRelated, labelsEqual, obligationsMet, accepts}
-use Rattle.bisimulation.specs.Namjoshi.{Bisimulation, InitialStatesRelated}
-use Rattle.bisimulation.specs.Triples.{tripleRank, raised}
 use Rattle.bisimulation.proofs.ClauseLaws.{flip-formed, initial-e, initial-i, accepts-iff}
 use Rattle.bisimulation.proofs.Equivalences.{one-initial}
 use Rattle.bisimulation.proofs.NamjoshiTheorems.{bisimulation-accepted, accepted-bisimulation}
@@ -25,11 +21,10 @@ use Rattle.tables.specs.declared.Answer.{Answer}
 use Rattle.table_reader.proofs.ConditionLaws.{none-good}
 use Rattle.table_reader.proofs.TableLaws.{table-formed}
 use Rattle.certificates.specs.Layout.{sizesOf, rowsPart, rowOf}
-use Rattle.certificates.specs.CertificateModel.{AreBytes, viewOf, ranksOf}
+use Rattle.certificates.specs.CertificateModel.{AreBytes, viewOf}
 use Rattle.certificate_reader.proofs.CertificateConditionLaws.{certificate-none-good}
 use Rattle.certificates.proofs.ModelLaws.{view-plain}
-use Rattle.obligations.specs.Judging.{checks, accepted, verdict, countBy, countObligations}
-use Rattle.obligations.specs.declared.Clause.the-variants.{Answer as Answered, Stutter as Stuttered, Match as Matched}
+use Rattle.obligations.specs.Judging.{checks, accepted, verdict}
 use Rattle.obligations.proofs.JudgingLaws.{verdict-iff, verdict-e, counts-sum}
 use Rattle.checker.specs.Judge.{pairsIn, verdictAnswer, judgeAnswer}
 use Rattle.checker.proofs.BytesLaws.{formed}
@@ -37,7 +32,6 @@ use Rattle.demands.specs.Judged.{view, ranks, AllWellFormed, StartsRelat
 use Rattle.demands.specs.Demand2.{JudgeExact}
 use Rattle.demands.proofs.CheckLaws.{counts-answer, counts-stutter, counts-match}
 use Rattle.demands.proofs.CountLaws.{count-checks, obligations-most}
-use Rattle.demands.proofs.JudgeCases.{Case, by-left, by-right, by-certificate, by-starts, by-check, by-none, cases}
 use Rattle.demands.proofs.JudgeConditions.{verdict-is, accepted-case}
 
 module _ (left right c : List ℕ) (bytes : AreBytes c) where

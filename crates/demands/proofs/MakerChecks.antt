@@ -1,14 +1,12 @@
 -- What the maker looks at, as statements: a check goes on exactly where the maker finds nothing against it, it stops exactly where the maker refuses and
 -- with these numbers, and the chains that are found are those of document 01. Assumes nothing.
-use Prim.Native.Nat.{ℕ, _≤_, _<_}
-use mathlib.Core.Path.{_≡_, refl, sym, ap, _∙_, subst}
+use Prim.Native.Nat.{ℕ, _<_}
+use mathlib.Core.Path.{_≡_, sym, ap, _∙_, subst}
 use mathlib.Core.Logic.{_⊎_, inl, inr, ⊎-elim}
-use mathlib.Core.Bool.{Bool, true, false, cond, _&&_}
+use mathlib.Core.Bool.{Bool, true, false, cond}
 use mathlib.Core.List.{List, [], _∷_, _++_, map}
-use native.Mathlib.Nat.{le-refl}
 use native.Mathlib.Omega.{arith}
-use lib.Dec.{T, eqb, eqb→eq, leb, leb→le, le→leb}
-use lib.ListN.{length}
+use lib.Dec.{T, eqb, eqb→eq, leb→le, le→leb}
 use Rattle.lists.specs.Lists.{All}
 use Rattle.lists.proofs.BoolLaws.{and-l, and-r, and-i, or-e, or-l, or-r, eq→eqb}
 use Rattle.bisimulation.specs.Systems.{View, WellFormed, flip}
@@ -16,7 +14,7 @@ use Rattle.bisimulation.specs.Maker.{matched, chainLength}
 use Rattle.bisimulation.proofs.ClauseLaws.{flip-formed}
 use Rattle.bisimulation.proofs.RunLaws.{matched-iff, chain-some, chain-most, chain-bound}
 use Rattle.tables.specs.declared.Answer.{Answer}
-use Rattle.obligations.specs.Judging.{Check, labelsOf, leftStep, rightStep, Result, passes, metBy, stops, Verdict, accepted, refusedWith, andThen}
+use Rattle.obligations.specs.Judging.{Check, labelsOf, leftStep, rightStep, Result, passes, metBy, stops, accepted, refusedWith, andThen}
 use Rattle.obligations.proofs.JudgingLaws.{goes}
 use Rattle.examination.specs.Examine.{firstStop, answered, resultBy, makerResult, endlessAt, firstChain, endless}
 use Rattle.examination.proofs.VerdictLaws.{of-accepted}

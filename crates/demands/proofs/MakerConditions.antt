@@ -2,20 +2,17 @@
 -- first such step, row, check or chain, and a refusal leaves the output untouched. Assumes nothing.
 use Prim.Native.Nat.{ℕ, _≤_, _<_}
 use mathlib.Core.Path.{_≡_, refl, sym, ap, _∙_, subst}
-use mathlib.Core.Logic.{_↔_, _⊎_, inl, inr, ⊎-elim}
+use mathlib.Core.Logic.{_⊎_, inl, inr, ⊎-elim}
 use mathlib.Core.List.{List, map}
 use native.Mathlib.Decide.{decLt}
 use native.Mathlib.Omega.{arith}
-use lib.Dec.{T}
 use lib.ListN.{length, getD}
 use Rattle.lists.specs.Below.{IsFirstBelow}
-use Rattle.lists.specs.Lists.{All}
 use Rattle.lists.proofs.BoolLaws.{T-true, not-T-false}
-use Rattle.bisimulation.specs.Systems.{View, WellFormed, flip}
-use Rattle.bisimulation.proofs.ClauseLaws.{flip-formed}
+use Rattle.bisimulation.specs.Systems.{WellFormed, flip}
 use Rattle.tables.specs.Table.{statesOf, startOf}
-use Rattle.table_reader.specs.TableReading.{headOf, readTable}
-use Rattle.tables.specs.Answers.{refusal}
+use Rattle.table_reader.specs.TableReading.{readTable}
+use Rattle.tables.specs.Answers.{sixNumbers}
 use Rattle.table_reader.specs.TableAnswers.{tableAnswer}
 use Rattle.table_reader.specs.Conditions.{FirstApplies, NoneApplies, tableCauses}
 use Rattle.tables.specs.declared.Answer.{Answer}
@@ -33,19 +30,19 @@ use Rattle.certificate_reader.specs.declared.RelationRefusal.{RelationRefusal}
 use Rattle.certificate_reader.specs.declared.RelationRefusal.the-variants as refused
 use Rattle.certificate_reader.specs.declared.RelationRead.{RelationRead}
 use Rattle.certificate_reader.specs.declared.RelationRead.the-variants as relation
-use Rattle.certificate_reader.proofs.CertificateConditionLaws.{relation-refused-first, first-relation-refused, relation-good-none, relation-none-good, relation-row-first}
+use Rattle.certificate_reader.proofs.CertificateConditionLaws.{relation-refused-first, first-relation-refused, relation-good-none, relation-row-first}
 use Rattle.obligations.specs.Judging.{checks, Verdict, accepted, refusedWith}
 use Rattle.obligations.specs.CheckAnswers.{startsAnswer}
-use Rattle.examination.specs.Examine.{followedBy, firstStop, makerResult, endless, startsVerdict, examined}
+use Rattle.examination.specs.Examine.{firstStop, makerResult, endless, startsVerdict, examined}
 use Rattle.examination.proofs.VerdictLaws.{both-accepted}
 use Rattle.examination.proofs.ExamineLaws.{if-accepted}
 use Rattle.examination.proofs.RefusalLaws.{FirstStop, Refused, by-starts as starts-refuse, by-check as check-refuses, by-left-chain as left-chain-refuses, by-right-chain as right-chain-refuses, examined-refused, accepted-all-go}
-use Rattle.ranking.specs.Make.{DrawingRead, fileFor, madeAnswer, makeAnswer, outputAfter, makeOutput}
+use Rattle.ranking.specs.Make.{madeAnswer, makeAnswer, makeOutput}
 use Rattle.ranking.proofs.MakeAnswers.{left-answer, right-answer, relation-answer, short-answer, room-answer, refused-output}
 use Rattle.ranking.proofs.MakeLaws.{stopped-answer, passed-answer}
 use Rattle.demands.specs.Checks.{FirstFailing}
 use Rattle.demands.specs.Demand2.{Drawn}
-use Rattle.demands.specs.Made.{Clears, Refuses, SomeLongChain, FirstLongChain, NamesChain, MakerNumber, Ready, StartsDrawn, Cleared, MakesByConditions, MakerNamesFirst}
+use Rattle.demands.specs.Made.{Clears, Refuses, SomeLongChain, NamesChain, MakerNumber, Ready, StartsDrawn, Cleared, MakesByConditions, MakerNamesFirst}
 use Rattle.demands.proofs.CheckLaws.{all-map}
 use Rattle.demands.proofs.TableRefusals.{Numbers, table-numbers, Unnamed, table-unnamed, Beyond, good-not-refused, tables-by-conditions, tables-named}
 use Rattle.demands.proofs.RelationsExact.{drawn-formed, drawn-read}
@@ -82,14 +79,14 @@ module _ (left right drawing output : List ℕ) (bytes : AreBytes drawing) where
     by-check : StartsDrawn left right drawing → FirstFailing (Clears (viewOf left right drawing)) (Refuses (viewOf left right drawing)) (checks (viewOf left right drawing)) A → Ends
     by-chain : Cleared left right drawing output → NamesChain (viewOf left right drawing) A → Ends
     by-none : Cleared left right drawing output → (¬ SomeLongChain (viewOf left right drawing)) → (¬ SomeLongChain (flip (viewOf left right drawing)))
-        → A ≡ refusal 0 0 (certificateLength (sizesOf left right)) → Ends
+        → A ≡ sixNumbers 0 0 (certificateLength (sizesOf left right)) → Ends
 
   data Case : Type 0 where
     by-left : (r : TableRefusal) → readTable left ≡ table.Refused r → A ≡ tableAnswer r 0 → Case
     by-right : (r : TableRefusal) → NoneApplies (tableCauses left) → readTable right ≡ table.Refused r → A ≡ tableAnswer r 1 → Case
     by-relation : (r : RelationRefusal) → NoneApplies (tableCauses left) → NoneApplies (tableCauses right) → readRelation (sizesOf left right) drawing ≡ relation.Refused r
         → A ≡ relationAnswer r 2 → Case
-    by-room : Drawn left right drawing → length output < certificateLength (sizesOf left right) → A ≡ refusal 21 3 (certificateLength (sizesOf left right)) → Case
+    by-room : Drawn left right drawing → length output < certificateLength (sizesOf left right) → A ≡ sixNumbers 21 3 (certificateLength (sizesOf left right)) → Case
     by-ready : Ready left right drawing output → Ends → Case
 
   module _ (ready : Ready left right drawing output) where
@@ -191,11 +188,11 @@ module _ (left right drawing output : List ℕ) (bytes : AreBytes drawing) where
 
   -- where nothing before the chains applies
   cleared-i : Cleared left right drawing output → NamesChain (viewOf left right drawing) A
-      ⊎ ((¬ SomeLongChain (viewOf left right drawing)) × (¬ SomeLongChain (flip (viewOf left right drawing))) × (A ≡ refusal 0 0 (certificateLength (sizesOf left right))))
+      ⊎ ((¬ SomeLongChain (viewOf left right drawing)) × (¬ SomeLongChain (flip (viewOf left right drawing))) × (A ≡ sixNumbers 0 0 (certificateLength (sizesOf left right))))
   cleared-i c = go (ends (c .ready))
     where
       go : Ends → NamesChain (viewOf left right drawing) A
-          ⊎ ((¬ SomeLongChain (viewOf left right drawing)) × (¬ SomeLongChain (flip (viewOf left right drawing))) × (A ≡ refusal 0 0 (certificateLength (sizesOf left right))))
+          ⊎ ((¬ SomeLongChain (viewOf left right drawing)) × (¬ SomeLongChain (flip (viewOf left right drawing))) × (A ≡ sixNumbers 0 0 (certificateLength (sizesOf left right))))
       go (by-starts h e) = absurd (h (c .starts))
       go (by-check h f) = absurd (clears-none (viewOf left right drawing) (formed (c .ready)) _ A (c .clears) f)
       go (by-chain d n) = inl n
@@ -227,7 +224,7 @@ module _ (left right drawing output : List ℕ) (bytes : AreBytes drawing) where
   row-e p (by-ready y (by-chain d n)) = absurd (let c = chain-numbers n .0 in let of-file = chain-numbers n .1 in omega arith)
   row-e p (by-ready y (by-none d n m e)) = absurd (let c = code-of e in let of-file = file-of e in omega arith)
 
-  short-e : A .code ≡ 21 → Case → Drawn left right drawing × (length output < certificateLength (sizesOf left right)) × (A ≡ refusal 21 3 (certificateLength (sizesOf left right)))
+  short-e : A .code ≡ 21 → Case → Drawn left right drawing × (length output < certificateLength (sizesOf left right)) × (A ≡ sixNumbers 21 3 (certificateLength (sizesOf left right)))
   short-e p (by-left r s e) = absurd (let n = by-table r 0 e in let least = n .least in let most = n .most in let of-file = n .of-file in omega arith)
   short-e p (by-right r g s e) = absurd (let n = by-table r 1 e in let least = n .least in let most = n .most in let of-file = n .of-file in omega arith)
   short-e p (by-relation r g h s e) = absurd (let of-file = by-drawing r e .of-file in ⊎-elim (λ o. omega arith) (λ o. omega arith) (by-drawing r e .number))
@@ -267,7 +264,7 @@ module _ (left right drawing output : List ℕ) (bytes : AreBytes drawing) where
   chain-e p (by-ready y (by-chain d n)) = (d, n)
   chain-e p (by-ready y (by-none d n m e)) = absurd (let c = code-of e in let of-file = file-of e in omega arith)
 
-  none-e : A .code ≡ 0 → Case → Cleared left right drawing output × (¬ SomeLongChain (viewOf left right drawing)) × (¬ SomeLongChain (flip (viewOf left right drawing))) × (A ≡ refusal 0 0 (certificateLength (sizesOf left right)))
+  none-e : A .code ≡ 0 → Case → Cleared left right drawing output × (¬ SomeLongChain (viewOf left right drawing)) × (¬ SomeLongChain (flip (viewOf left right drawing))) × (A ≡ sixNumbers 0 0 (certificateLength (sizesOf left right)))
   none-e p (by-left r s e) = absurd (let n = by-table r 0 e in let least = n .least in let most = n .most in let of-file = n .of-file in omega arith)
   none-e p (by-right r g s e) = absurd (let n = by-table r 1 e in let least = n .least in let most = n .most in let of-file = n .of-file in omega arith)
   none-e p (by-relation r g h s e) = absurd (let of-file = by-drawing r e .of-file in ⊎-elim (λ o. omega arith) (λ o. omega arith) (by-drawing r e .number))

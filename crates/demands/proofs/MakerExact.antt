@@ -1,7 +1,7 @@
 -- Demand 3 on bytes, in one piece. The maker's examination passes exactly where the theory's maker succeeds, which is exactly where the relation has the
 -- path property; the file it writes has the theory's ranks, which the judge accepts and which mean what document 01 says; and any accepted file's ranks,
 -- whatever they are, show the path property. Assumes nothing.
-use Prim.Native.Nat.{ℕ, _≤_, _<_}
+use Prim.Native.Nat.{ℕ, _≤_}
 use mathlib.Core.Path.{_≡_, refl, sym, ap, _∙_, subst}
 use mathlib.Core.Logic.{_↔_}
 use mathlib.Core.List.{List, _++_}
@@ -12,35 +12,30 @@ use lib.Seq.{take-at, drop-at}
 use Rattle.lists.specs.Lists.{putFront}
 use Rattle.lists.specs.Numbers.{bigBytes}
 use Rattle.lists.proofs.FillLaws.{put-front-fits}
-use Rattle.bisimulation.specs.Systems.{View, Ranks, Bytes, WellFormed, flip}
-use Rattle.bisimulation.specs.Judge.{accepts}
+use Rattle.bisimulation.specs.Systems.{View, flip}
 use Rattle.bisimulation.specs.Maker.{made, succeeds}
 use Rattle.bisimulation.specs.PathProperty.{PathProperty}
 use Rattle.bisimulation.proofs.ClauseLaws.{flip-formed}
 use Rattle.bisimulation.proofs.Equivalences.{succeeds-iff-property, accepted-property}
 use Rattle.bisimulation.proofs.Made.{made-accepted, made-bytes}
 use Rattle.tables.specs.Table.{startOf}
-use Rattle.table_reader.specs.TableReading.{headOf}
 use Rattle.tables.specs.Model.{systemOf}
-use Rattle.tables.specs.Answers.{refusal}
+use Rattle.tables.specs.Answers.{sixNumbers}
 use Rattle.tables.specs.declared.Answer.{Answer}
-use Rattle.table_reader.proofs.ConditionLaws.{none-good}
 use Rattle.table_reader.proofs.TableLaws.{table-formed}
-use Rattle.certificates.specs.Layout.{sizesOf, certificateLength, rowsPart}
-use Rattle.certificates.specs.CertificateModel.{AreBytes, viewOf, ranksOf}
-use Rattle.certificate_reader.proofs.CertificateConditionLaws.{relation-none-good}
+use Rattle.certificates.specs.Layout.{sizesOf, certificateLength}
+use Rattle.certificates.specs.CertificateModel.{viewOf, ranksOf}
 use Rattle.certificates.proofs.ModelLaws.{view-plain}
 use Rattle.obligations.specs.Judging.{Verdict, accepted, refusedWith}
 use Rattle.files.specs.File.{certificateHeader, certificateFile}
-use Rattle.files.proofs.FileLaws.{file-length, file-rows, file-ranks, header-length}
+use Rattle.files.proofs.FileLaws.{file-length, file-rows, file-ranks}
 use Rattle.examination.specs.Examine.{examined}
 use Rattle.examination.proofs.ExamineLaws.{examined-succeeds}
-use Rattle.ranking.specs.Make.{DrawingRead, fileFor, madeAnswer, makeAnswer, outputAfter, makeOutput}
+use Rattle.ranking.specs.Make.{DrawingRead, fileFor, makeAnswer, makeOutput}
 use Rattle.ranking.proofs.MakeAnswers.{room-answer, room-output}
 use Rattle.ranking.proofs.MakeLaws.{refused-code, stopped-answer, stopped-output, passed-answer, passed-output}
 use Rattle.checker.specs.Judge.{judgeAnswer}
-use Rattle.demands.specs.Ranks.{MatchRanks, StutterRanks}
-use Rattle.demands.specs.Demand2.{HasRows, Drawn}
+use Rattle.demands.specs.Demand2.{Drawn}
 use Rattle.demands.specs.Demand3.{DefinedFile, MakerExact}
 use Rattle.demands.proofs.RankWords.{match-ranks, stutter-ranks, success-endless, match-agree, stutter-agree}
 use Rattle.demands.proofs.RelationsExact.{drawn-formed, drawn-read, drawn-length, drawn-few, accepted-file, file-accepted}
@@ -66,7 +61,7 @@ module _ (left right drawing output : List ℕ) (drawn : Drawn left right drawin
 
   -- The two ways it can end.
   data Ends : Type 0 where
-    passes : T (succeeds (viewOf left right drawing)) → makeAnswer left right drawing output ≡ refusal 0 0 (certificateLength (sizesOf left right))
+    passes : T (succeeds (viewOf left right drawing)) → makeAnswer left right drawing output ≡ sixNumbers 0 0 (certificateLength (sizesOf left right))
         → makeOutput left right drawing output ≡ putFront (fileFor left right drawing) output → Ends
     stops : (a : Answer) → (¬ T (succeeds (viewOf left right drawing))) → makeAnswer left right drawing output ≡ a → (¬ (a .code ≡ 0)) → makeOutput left right drawing output ≡ output → Ends
 

@@ -1,17 +1,12 @@
 -- The maker's ranks mean what document 01 says: the least number of steps inside a matching run, and the most steps of a chain. Assumes nothing.
-use Prim.Native.Nat.{ℕ, _≤_, _<_}
-use mathlib.Core.Path.{_≡_, refl, sym, ap, _∙_, subst}
-use mathlib.Core.Bool.{Bool, cond, _&&_}
-use mathlib.Core.List.{List}
+use Prim.Native.Nat.{ℕ, _<_}
+use mathlib.Core.Path.{_≡_, sym, _∙_}
 use native.Mathlib.Omega.{arith}
-use lib.Dec.{T, ltb, ltb→lt}
-use lib.ListN.{length}
+use lib.Dec.{T, ltb→lt}
 use Rattle.lists.proofs.BoolLaws.{cond-true, cond-false, and-l, and-r}
 use Rattle.bisimulation.specs.Systems.{View, WellFormed, flip}
-use Rattle.bisimulation.specs.Judge.{allPairs}
 use Rattle.bisimulation.specs.Maker.{matched, distance, matchRank, chainLength, stutterRank, noneEndless, succeeds}
-use Rattle.bisimulation.specs.Runs.{MatchingRun, StutteringChain}
-use Rattle.bisimulation.proofs.ClauseLaws.{pairs-e, flip-formed}
+use Rattle.bisimulation.proofs.ClauseLaws.{pairs-e}
 use Rattle.bisimulation.proofs.RunLaws.{matched-iff, matched-run, run-matched, chain-some, chain-longest}
 use Rattle.demands.specs.Ranks.{MatchRanks, StutterRanks}
 

@@ -1,7 +1,7 @@
 -- Demand 2 on bytes, which relations: some file that has the relation's rows is accepted exactly where the starts are related and the relation is the
 -- paper's well-founded bisimulation. The key is that byte ranks make a file, whose rows and ranks are read back. Assumes nothing.
-use Prim.Native.Nat.{ℕ, _+_, _*_, _≤_, _<_}
-use mathlib.Core.Path.{_≡_, refl, sym, ap, _∙_, subst}
+use Prim.Native.Nat.{ℕ, _*_, _≤_, _<_}
+use mathlib.Core.Path.{_≡_, sym, ap, _∙_, subst}
 use mathlib.Core.Logic.{_↔_}
 use mathlib.Core.List.{List}
 use native.Mathlib.Omega.{arith}
@@ -13,22 +13,21 @@ use Rattle.bisimulation.specs.Systems.{View, Ranks, Bytes, WellFormed, flip, sw
 use Rattle.bisimulation.specs.Judge.{accepts}
 use Rattle.bisimulation.specs.Namjoshi.{InitialStatesRelated, SomeRank}
 use Rattle.bisimulation.proofs.NamjoshiTheorems.{accepted-iff-bisimulation}
-use Rattle.tables.specs.Table.{statesOf, stepsOf}
 use Rattle.table_reader.specs.TableReading.{headOf}
 use Rattle.tables.specs.Model.{systemOf}
 use Rattle.table_reader.proofs.ConditionLaws.{none-good}
 use Rattle.table_reader.proofs.TableLaws.{table-ok}
 use Rattle.certificates.specs.declared.Sizes.{Sizes}
-use Rattle.certificates.specs.Layout.{sizesOf, rowsAt, rowsPart}
+use Rattle.certificates.specs.Layout.{sizesOf, rowsPart}
 use Rattle.certificates.specs.CertificateModel.{AreBytes, viewOf, ranksOf}
 use Rattle.certificate_reader.proofs.CertificateConditionLaws.{certificate-good-none, certificate-none-good, relation-none-good}
 use Rattle.certificates.proofs.ModelLaws.{rows-length, rows-byte, ranks-bytes, view-plain}
 use Rattle.certificate_reader.proofs.CertificateLaws.{certificate-ok, relation-ok, view-formed}
 use Rattle.files.specs.File.{certificateFile}
-use Rattle.files.proofs.FileLaws.{FitsHeader, RanksAgree, file-length, file-rows, file-ranks, file-good, file-bytes}
+use Rattle.files.proofs.FileLaws.{FitsHeader, file-rows, file-ranks, file-good, file-bytes}
 use Rattle.checker.specs.Judge.{judgeAnswer}
 use Rattle.ranking.specs.Make.{DrawingRead}
-use Rattle.demands.specs.Judged.{view, ranks, AllWellFormed}
+use Rattle.demands.specs.Judged.{AllWellFormed}
 use Rattle.demands.specs.Demand2.{HasRows, Drawn}
 use Rattle.demands.proofs.AgreeLaws.{AgreeInside, accepts-agree}
 use Rattle.demands.proofs.JudgeExact.{accepts-code, code-accepts}

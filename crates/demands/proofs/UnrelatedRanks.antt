@@ -1,30 +1,28 @@
 -- Ranks of unrelated pairs are not looked at: two certificates that differ only there get the same six numbers. Assumes nothing.
 use Prim.Native.Nat.{ℕ, _+_, _*_, _≤_, _<_}
 use mathlib.Core.Path.{_≡_, refl, sym, ap, ap₂, _∙_, subst, fun-ext}
-use mathlib.Core.Logic.{⊎-elim}
-use mathlib.Core.Bool.{Bool, true, false, cond, not, _&&_, and-false}
-use mathlib.Core.List.{List, [], _∷_, _++_, map}
+use mathlib.Core.Bool.{Bool, true, false, cond, not, _&&_}
+use mathlib.Core.List.{List, [], _∷_, map}
 use native.Mathlib.Omega.{arith}
-use lib.Dec.{T, ltb, eqb, eqb→eq}
-use lib.ListN.{length, getD}
+use lib.Dec.{T, ltb, eqb}
+use lib.ListN.{length}
 use borrow.Author.Tests.{eqb-true, not-false}
 use lib.Seq.{ext-getD}
-use Rattle.lists.specs.Below.{anyBelow}
 use Rattle.lists.specs.Lists.{All}
 use Rattle.lists.specs.Numbers.{byteAt, bigEndian}
 use Rattle.lists.proofs.BelowLaws.{any-cong}
 use Rattle.lists.proofs.BoolLaws.{and-r}
 use Rattle.lists.proofs.NumberLaws.{big-cong}
-use Rattle.bisimulation.specs.Systems.{System, View, Ranks, flip, swap}
+use Rattle.bisimulation.specs.Systems.{View, Ranks, flip, swap}
 use Rattle.bisimulation.specs.Judge.{is2a, is2b, is2c, meets2c}
 use Rattle.tables.specs.Table.{statesOf, startOf, magicFits}
 use Rattle.table_reader.specs.TableReading.{readTable}
 use Rattle.tables.specs.declared.Answer.{Answer}
 use Rattle.table_reader.specs.declared.TableRead.{TableRead}
 use Rattle.table_reader.specs.declared.TableRead.the-variants as table
-use Rattle.certificates.specs.Layout.{sizesOf, certificateLength, rowsAt, alAt, arAt, clAt, crAt, rowsPart}
+use Rattle.certificates.specs.Layout.{sizesOf, certificateLength, rowsAt, alAt, rowsPart}
 use Rattle.certificate_reader.specs.CertificateReading.{certificateSizesFit, readHeader, readRows, withRows, readCertificate}
-use Rattle.certificates.specs.CertificateModel.{AreBytes, viewOf, ranksOf}
+use Rattle.certificates.specs.CertificateModel.{viewOf, ranksOf}
 use Rattle.certificates.specs.declared.Sizes.{Sizes}
 use Rattle.certificate_reader.specs.declared.CertificateRefusal.{CertificateRefusal}
 use Rattle.certificate_reader.specs.declared.CertificateRefusal.the-variants as refused
@@ -38,7 +36,7 @@ use Rattle.demands.specs.Judged.{view, ranks}
 use Rattle.demands.specs.Demand2.{SameWhereRelated}
 use Rattle.obligations.specs.CheckAnswers.{startsAnswer}
 use Rattle.obligations.specs.Obligation.{outcomeOf, isApart, obligationAt}
-use Rattle.obligations.specs.Judging.{joinBelow, stepsFrom, Check, labelsOf, leftStep, rightStep, pairChecks, checks, Result, stepResult, result, Verdict, accepted, refusedWith, verdict, andThen, isBy, countBy}
+use Rattle.obligations.specs.Judging.{stepsFrom, Check, leftStep, rightStep, pairChecks, checks, stepResult, result, Verdict, accepted, refusedWith, verdict, andThen, isBy, countBy}
 use Rattle.obligations.specs.declared.Clause.{Clause}
 use Rattle.obligations.specs.declared.Clause.the-variants.{Answer as Answered, Stutter as Stuttered, Match as Matched}
 use Rattle.obligations.proofs.JudgingLaws.{all-append, all-when, all-map, all-join, steps-all}

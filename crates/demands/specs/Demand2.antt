@@ -7,16 +7,15 @@ use mathlib.Core.List.{List}
 use lib.Dec.{T}
 use lib.ListN.{length}
 use Rattle.lists.specs.Numbers.{byteAt}
-use Rattle.bisimulation.specs.Systems.{View}
 use Rattle.bisimulation.specs.Clauses.{Meets, Certified}
-use Rattle.bisimulation.specs.Namjoshi.{Bisimulation, InitialStatesRelated, SomeRank}
+use Rattle.bisimulation.specs.Namjoshi.{Bisimulation, InitialStatesRelated}
 use Rattle.bisimulation.specs.Triples.{tripleRank, raised}
-use Rattle.tables.specs.Table.{statesOf, stepsOf}
-use Rattle.table_reader.specs.Conditions.{NoneApplies, tableCauses}
+use Rattle.tables.specs.Table.{statesOf}
+use Rattle.table_reader.specs.Conditions.{NoneApplies, WellFormedTable}
 use Rattle.tables.specs.declared.Answer.{Answer}
 use Rattle.certificates.specs.Layout.{sizesOf, rowsAt, alAt, arAt, clAt, crAt}
 use Rattle.certificate_reader.specs.CertificateConditions.{relationCauses}
-use Rattle.certificates.specs.CertificateModel.{AreBytes, viewOf}
+use Rattle.certificates.specs.CertificateModel.{AreBytes}
 use Rattle.demands.specs.Judged.{view, ranks, AllWellFormed, Accepted}
 
 -- The judge's answer to the certificate c.
@@ -38,8 +37,8 @@ HasRows left right relation c = (i : ℕ) → i < 8 * statesOf left → byteAt c
 
 -- The two tables and the relation are well formed.
 pub record Drawn (left right relation : List ℕ) : Type 0 where
-  pub left-formed : NoneApplies (tableCauses left)
-  pub right-formed : NoneApplies (tableCauses right)
+  pub left-formed : WellFormedTable left
+  pub right-formed : WellFormedTable right
   pub relation-formed : NoneApplies (relationCauses (sizesOf left right) relation)
   pub relation-bytes : AreBytes relation
 

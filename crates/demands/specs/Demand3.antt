@@ -1,12 +1,12 @@
 -- Demand 3 on bytes, undivided: for any two tables and any relation that are well formed, and an output that is long enough, whatever it holds.
-use Prim.Native.Nat.{ℕ, _≤_, _<_}
+use Prim.Native.Nat.{ℕ}
 use mathlib.Core.Path.{_≡_}
 use mathlib.Core.Logic.{_↔_}
-use mathlib.Core.List.{List, _++_}
+use mathlib.Core.List.{List}
 use lib.ListN.{length, take, drop}
-use Rattle.bisimulation.specs.Systems.{View, Ranks, flip}
+use Rattle.bisimulation.specs.Systems.{flip}
 use Rattle.bisimulation.specs.PathProperty.{PathProperty}
-use Rattle.tables.specs.Answers.{refusal}
+use Rattle.tables.specs.Answers.{sixNumbers}
 use Rattle.tables.specs.declared.Answer.{Answer}
 use Rattle.certificates.specs.Layout.{sizesOf, certificateLength, rowsPart}
 use Rattle.certificates.specs.CertificateModel.{AreBytes, viewOf, ranksOf}
@@ -31,7 +31,7 @@ pub record MakerExact (left right drawing output : List ℕ) (answer : Answer) (
   -- The maker succeeds exactly when the relation has the path property.
   pub succeeds : (answer .code ≡ 0) ↔ PathProperty (viewOf left right drawing)
   -- It succeeds with 0, 0, L.
-  pub success : answer .code ≡ 0 → answer ≡ refusal 0 0 (certificateLength (sizesOf left right))
+  pub success : answer .code ≡ 0 → answer ≡ sixNumbers 0 0 (certificateLength (sizesOf left right))
   -- The certificate so written, the first L bytes of the output, is the file that document 01 defines, and the bytes after L stay.
   pub written : answer .code ≡ 0 → DefinedFile left right drawing (take (certificateLength (sizesOf left right)) after)
   pub rest-stays : answer .code ≡ 0 → drop (certificateLength (sizesOf left right)) after ≡ drop (certificateLength (sizesOf left right)) output

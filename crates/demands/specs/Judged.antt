@@ -1,7 +1,7 @@
 -- The judge's answer by conditions: which of document 01's causes apply, for any three byte strings.
 use Prim.Native.Nat.{ℕ, _+_, _*_, _≤_, _<_}
 use mathlib.Core.Path.{_≡_}
-use mathlib.Core.Bool.{Bool, cond}
+use mathlib.Core.Bool.{cond}
 use mathlib.Core.Logic.{_↔_, _⊎_}
 use mathlib.Core.List.{List}
 use lib.Dec.{T, eqb}
@@ -11,7 +11,7 @@ use Rattle.lists.specs.Below.{IsFirstBelow, sumBelow, countBelow}
 use Rattle.words.specs.Bits.{countBits}
 use Rattle.bisimulation.specs.Systems.{System, View, Ranks}
 use Rattle.tables.specs.Table.{statesOf, stepsOf, startOf}
-use Rattle.table_reader.specs.Conditions.{FirstApplies, NoneApplies, tableCauses}
+use Rattle.table_reader.specs.Conditions.{FirstApplies, NoneApplies, WellFormedTable, tableCauses}
 use Rattle.tables.specs.declared.Answer.{Answer}
 use Rattle.certificates.specs.Layout.{sizesOf, rowsPart, rowOf}
 use Rattle.certificate_reader.specs.CertificateConditions.{certificateCauses, certificateNumbers, HasWideBit}
@@ -31,8 +31,8 @@ module _ (left right c : List ℕ) where
 
   -- None of 1 to 15 applies.
   pub record AllWellFormed : Type 0 where
-    pub left-formed : NoneApplies (tableCauses left)
-    pub right-formed : NoneApplies (tableCauses right)
+    pub left-formed : WellFormedTable left
+    pub right-formed : WellFormedTable right
     pub certificate-formed : NoneApplies (certificateCauses (sizesOf left right) c)
 
   -- The starts are related.

@@ -10,7 +10,7 @@ use Rattle.lists.specs.Below.{IsFirstBelow}
 use Rattle.bisimulation.specs.Systems.{View, flip}
 use Rattle.bisimulation.specs.Runs.{MatchingRun, StutteringChain}
 use Rattle.tables.specs.Table.{statesOf, startOf}
-use Rattle.tables.specs.Answers.{refusal}
+use Rattle.tables.specs.Answers.{sixNumbers}
 use Rattle.table_reader.specs.Conditions.{FirstApplies, NoneApplies, tableCauses}
 use Rattle.tables.specs.declared.Answer.{Answer}
 use Rattle.certificates.specs.Layout.{sizesOf, certificateLength}
@@ -133,7 +133,7 @@ module _ (left right drawing output : List ℕ) where
     -- 15: the first such row
     pub wide-row : answer .code ≡ 15 → IsFirstBelow (statesOf left) (HasWideBit drawing (statesOf right)) (answer .a)
     -- 21: the length L
-    pub short-named : answer .code ≡ 21 → answer ≡ refusal 21 3 (certificateLength (sizesOf left right))
+    pub short-named : answer .code ≡ 21 → answer ≡ sixNumbers 21 3 (certificateLength (sizesOf left right))
     -- 16: the starts
     pub starts-named : answer .code ≡ 16 → answer ≡ startsAnswer (startOf left) (startOf right)
     -- 17 and 22: the first such check, in judging order
@@ -141,7 +141,7 @@ module _ (left right drawing output : List ℕ) where
     -- 23: the first such chain
     pub chain-named : answer .code ≡ 23 → NamesChain (viewOf left right drawing) answer
     -- success: the length L
-    pub made-named : answer .code ≡ 0 → answer ≡ refusal 0 0 (certificateLength (sizesOf left right))
+    pub made-named : answer .code ≡ 0 → answer ≡ sixNumbers 0 0 (certificateLength (sizesOf left right))
     -- unnamed fields are 0
     pub a-unnamed : (answer .code ≤ 7) ⊎ (answer .code ≡ 20) → 0 < answer .code → answer .a ≡ 0
     pub others-unnamed : (answer .code ≤ 15) ⊎ (answer .code ≡ 20) → (answer .b ≡ 0) × (answer .c ≡ 0) × (answer .d ≡ 0)

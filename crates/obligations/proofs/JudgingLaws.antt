@@ -2,21 +2,21 @@
 -- obligations, and where it is a refusal it names the first check that stops, every one before it having gone on. Assumes nothing.
 use Prim.Native.Nat.{ℕ, zero, suc, _+_, _<_, suc-le-suc, zero-le}
 use mathlib.Core.Path.{_≡_, refl, sym, ap, _∙_, subst}
-use mathlib.Core.Logic.{_↔_, ⊎-elim}
+use mathlib.Core.Logic.{_↔_}
 use mathlib.Core.Bool.{Bool, true, false, cond}
 use mathlib.Core.List.{List, [], _∷_, _++_, map}
 use native.Mathlib.Nat.{not-suc-le-zero, le-of-suc-le-suc}
 use native.Mathlib.Omega.{arith}
 use lib.Dec.{T, eqb, eqb→eq}
 use Rattle.lists.specs.Lists.{All}
-use Rattle.lists.proofs.BoolLaws.{T-dec, eq→eqb}
+use Rattle.lists.proofs.BoolLaws.{eq→eqb}
 use Rattle.tables.specs.declared.Answer.{Answer}
 use Rattle.bisimulation.specs.Systems.{System, View, Ranks, WellFormed, flip, swap}
 use Rattle.bisimulation.specs.Judge.{isMet, labelsEqual, obligationsMet}
 use Rattle.bisimulation.proofs.ClauseLaws.{flip-formed, pairs-e, pairs-i, steps-e, steps-i, labels-e, labels-i}
 use Rattle.obligations.specs.Obligation.{obligationAt}
 use Rattle.obligations.specs.CheckAnswers.{labelsAnswer}
-use Rattle.obligations.specs.Judging.{joinBelow, stepsFrom, Check, labelsOf, leftStep, rightStep, pairChecks, checks, Result, passes, metBy, stops, stepResult, result, Verdict, accepted, refusedWith, andThen, verdict, isBy, countBy, isObligation, countObligations}
+use Rattle.obligations.specs.Judging.{joinBelow, stepsFrom, Check, labelsOf, leftStep, rightStep, pairChecks, checks, Result, passes, metBy, stops, stepResult, result, accepted, refusedWith, andThen, verdict, isBy, countBy, isObligation, countObligations}
 use Rattle.obligations.specs.declared.Clause.{Clause}
 use Rattle.obligations.specs.declared.Clause.the-variants.{Answer as Answered, Stutter as Stuttered, Match as Matched}
 use Rattle.obligations.specs.declared.Outcome.{Outcome}

@@ -8,8 +8,8 @@ use native.Mathlib.Omega.{arith}
 use native.Mathlib.Decide.{ℕ-discrete}
 use lib.Bits.{bitAnd}
 use lib.Dec.{T, ltb, eqb, lt→ltb, ltb→lt, eqb→eq, eqb-refl}
-use borrow.Author.Tests.{le-ltb, eq-eqb, ne-eqb}
-use Rattle.lists.specs.Below.{anyBelow, firstBelow}
+use borrow.Author.Tests.{le-ltb, ne-eqb}
+use Rattle.lists.specs.Below.{anyBelow}
 use Rattle.lists.specs.Numbers.{byteAt}
 use Rattle.lists.proofs.BoolLaws.{and-l, and-r, and-i, eq→eqb, same-T}
 use Rattle.lists.proofs.BelowLaws as below

@@ -1,16 +1,16 @@
 -- The file that the tables of both sides give is the file of the maker's ranks. A side is a view, so left and right are one law. Assumes nothing.
 use Prim.Native.Nat.{ℕ, zero, suc, _+_, _*_, _^_, _≤_, _<_}
-use mathlib.Core.Path.{_≡_, refl, sym, ap, ap₂, _∙_, subst}
+use mathlib.Core.Path.{_≡_, refl, sym, ap, ap₂, _∙_}
 use mathlib.Core.Bool.{Bool, cond}
 use mathlib.Core.List.{List, _++_}
 use native.Mathlib.Omega.{arith}
 use lib.Dec.{ltb}
-use lib.ListN.{length, getD}
-use Rattle.lists.specs.Lists.{tabulate, grid}
+use lib.ListN.{getD}
+use Rattle.lists.specs.Lists.{grid}
 use Rattle.lists.specs.Numbers.{byteAt}
 use Rattle.lists.proofs.FillLaws.{tabulate-cong}
 use Rattle.words.specs.Bits.{hasBit}
-use Rattle.bisimulation.specs.Systems.{View, Ranks, flip}
+use Rattle.bisimulation.specs.Systems.{View, flip}
 use Rattle.bisimulation.specs.Maker as maker
 use Rattle.certificates.specs.declared.Sizes.{Sizes}
 use Rattle.lengths.specs.Side.{sideOf, Agrees}
@@ -19,7 +19,7 @@ use Rattle.lengths.specs.Chains.{chainBy}
 use Rattle.lengths.proofs.DistanceLaws.{match-rank-distance}
 use Rattle.lengths.proofs.LengthTableLaws.{cell-distance, cell-chain}
 use Rattle.files.specs.File.{certificateFile}
-use Rattle.files.specs.Writer.{Tables, tablesOf, stutterBy, stutterFrom, matchFrom, ranksFrom}
+use Rattle.files.specs.Writer.{tablesOf, stutterBy, stutterFrom, matchFrom, ranksFrom}
 
 -- ---- grids by their cells
 

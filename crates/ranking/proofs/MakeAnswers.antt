@@ -1,12 +1,12 @@
 -- The maker's answer and output, read by read: the first file that is refused, an output that is too short, or what is made of all three. Assumes nothing.
 use Prim.Native.Nat.{ℕ, _≤_, _<_}
-use mathlib.Core.Path.{_≡_, refl, sym, ap, _∙_, subst}
+use mathlib.Core.Path.{_≡_, sym, ap, _∙_, subst}
 use mathlib.Core.List.{List}
 use native.Mathlib.Omega.{arith}
 use lib.ListN.{length}
 use borrow.Author.Tests.{lt-ltb, le-ltb, ne-eqb}
 use Rattle.table_reader.specs.TableReading.{readTable}
-use Rattle.tables.specs.Answers.{refusal}
+use Rattle.tables.specs.Answers.{sixNumbers}
 use Rattle.table_reader.specs.TableAnswers.{tableAnswer}
 use Rattle.tables.specs.declared.Answer.{Answer}
 use Rattle.table_reader.specs.declared.TableRefusal.{TableRefusal}
@@ -17,7 +17,6 @@ use Rattle.table_reader.specs.declared.TableRead.the-variants as table
 use Rattle.certificates.specs.Layout.{sizesOf, certificateLength}
 use Rattle.certificate_reader.specs.CertificateReading.{readRelation}
 use Rattle.certificate_reader.specs.CertificateAnswers.{relationAnswer}
-use Rattle.certificates.specs.declared.Sizes.{Sizes}
 use Rattle.certificate_reader.specs.declared.RelationRefusal.{RelationRefusal}
 use Rattle.certificate_reader.specs.declared.RelationRefusal.the-variants as refused
 use Rattle.certificate_reader.specs.declared.RelationRead.{RelationRead}
@@ -63,7 +62,7 @@ module _ (left right drawing output : List ℕ) where
   relation-answer p q s = rw (p, q, s)
 
   module _ (read : DrawingRead left right drawing) where
-    pub short-answer : length output < certificateLength (sizesOf left right) → makeAnswer left right drawing output ≡ refusal 21 3 (certificateLength (sizesOf left right))
+    pub short-answer : length output < certificateLength (sizesOf left right) → makeAnswer left right drawing output ≡ sixNumbers 21 3 (certificateLength (sizesOf left right))
     unfolding makeAnswer roomThen
     short-answer l = rw (read .left-good, read .right-good, read .drawing-good, lt-ltb (length output) (certificateLength (sizesOf left right)) l)
 
@@ -90,5 +89,5 @@ module _ (left right drawing output : List ℕ) where
       (ap (λ (y : RelationRead). relationThen y blank) q ∙ sym (relation-answer p o (sym e ∙ q)), refused-output (relation-answer p o (sym e ∙ q)) (relation-code r))
 
   pub too-short : DrawingRead left right drawing → {L : ℕ} → L ≡ certificateLength (sizesOf left right) → length output < L
-      → (refusal 21 3 L ≡ makeAnswer left right drawing output) × (output ≡ makeOutput left right drawing output)
-  too-short read {L} e l = let k = subst (λ (n : ℕ). length output < n) e l in (ap (refusal 21 3) e ∙ sym (short-answer read k), refused-output (short-answer read k) (λ z. omega arith))
+      → (sixNumbers 21 3 L ≡ makeAnswer left right drawing output) × (output ≡ makeOutput left right drawing output)
+  too-short read {L} e l = let k = subst (λ (n : ℕ). length output < n) e l in (ap (sixNumbers 21 3) e ∙ sym (short-answer read k), refused-output (short-answer read k) (λ z. omega arith))

@@ -1,6 +1,6 @@
 -- What the maker works out for two tables and a relation that are read: the tables of both sides are those of the view that the bytes give. Assumes nothing.
-use Prim.Native.Nat.{ℕ, _≤_, _<_}
-use mathlib.Core.Path.{_≡_, refl, sym, ap, ap₂, _∙_, subst}
+use Prim.Native.Nat.{ℕ, _≤_}
+use mathlib.Core.Path.{_≡_, refl, sym, ap, _∙_}
 use mathlib.Core.Logic.{⊎-elim}
 use mathlib.Core.List.{List}
 use native.Mathlib.Omega.{arith}
@@ -11,10 +11,9 @@ use Rattle.lists.specs.Lists.{grid, putFront}
 use Rattle.lists.proofs.FillLaws.{getD-past}
 use Rattle.words.specs.Bits.{hasBit}
 use Rattle.bisimulation.specs.Systems.{View, flip}
-use Rattle.bisimulation.specs.Maker.{made}
-use Rattle.tables.specs.Table.{statesOf, stepsOf, startOf, stepsPart}
+use Rattle.tables.specs.Table.{statesOf, startOf, stepsPart}
 use Rattle.tables.specs.Model.{systemOf}
-use Rattle.tables.specs.Answers.{refusal}
+use Rattle.tables.specs.Answers.{sixNumbers}
 use Rattle.tables.specs.declared.Answer.{Answer}
 use Rattle.table_reader.proofs.TableLaws.{table-ok}
 use Rattle.certificates.specs.declared.Sizes.{Sizes}
@@ -150,7 +149,7 @@ module _ (left right drawing : List ℕ) where
   unfolding outputAfter
   stopped-output a e output = sym (rw (← (stopped-answer a e), ne-eqb (a .code) 0 (refused-code (viewOf left right drawing) (startOf left) (startOf right) a e)))
 
-  pub passed-answer : examined (viewOf left right drawing) (startOf left) (startOf right) ≡ accepted → refusal 0 0 (certificateLength (sizesOf left right)) ≡ madeAnswer left right drawing
+  pub passed-answer : examined (viewOf left right drawing) (startOf left) (startOf right) ≡ accepted → sixNumbers 0 0 (certificateLength (sizesOf left right)) ≡ madeAnswer left right drawing
   unfolding madeAnswer
   passed-answer e = sym (rw e)
 

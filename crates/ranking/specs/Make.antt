@@ -11,7 +11,7 @@ use Rattle.lists.specs.Lists.{putFront}
 use Rattle.bisimulation.specs.Maker.{made}
 use Rattle.tables.specs.Table.{startOf}
 use Rattle.table_reader.specs.TableReading.{readTable}
-use Rattle.tables.specs.Answers.{refusal}
+use Rattle.tables.specs.Answers.{sixNumbers}
 use Rattle.tables.specs.declared.Answer.{Answer}
 use Rattle.tables.specs.declared.Head.{Head}
 use Rattle.table_reader.specs.declared.TableRead.the-variants as table
@@ -34,7 +34,7 @@ relationThen (relation.Refused r) rest = relationAnswer r 2
 
 -- 21 where the output has fewer than L bytes, or what follows.
 unfoldable pub roomThen : ℕ → ℕ → Answer → Answer
-roomThen L room rest = cond (ltb room L) (refusal 21 3 L) rest
+roomThen L room rest = cond (ltb room L) (sixNumbers 21 3 L) rest
 
 -- The refusal of an examination, or what follows where it passed.
 abbrev pub verdictThen : Verdict → Answer → Answer
@@ -56,7 +56,7 @@ fileFor left right drawing = certificateFile (sizesOf left right) drawing (made 
 
 -- What the examination and the success answer, and what becomes of the output.
 unfoldable pub madeAnswer : List ℕ → List ℕ → List ℕ → Answer
-madeAnswer left right drawing = verdictThen (examined (viewOf left right drawing) (startOf left) (startOf right)) (refusal 0 0 (certificateLength (sizesOf left right)))
+madeAnswer left right drawing = verdictThen (examined (viewOf left right drawing) (startOf left) (startOf right)) (sixNumbers 0 0 (certificateLength (sizesOf left right)))
 
 unfoldable pub makeAnswer : List ℕ → List ℕ → List ℕ → List ℕ → Answer
 makeAnswer left right drawing output =

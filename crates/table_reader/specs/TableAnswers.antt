@@ -1,6 +1,6 @@
 -- The six numbers of a table's refusal (document 01, What is turned away): code, file, and a the first such step for 8 and 9. The caller says which file it is.
 use Prim.Native.Nat.{ℕ}
-use Rattle.tables.specs.Answers.{refusal}
+use Rattle.tables.specs.Answers.{sixNumbers}
 use Rattle.tables.specs.declared.Answer.{Answer}
 use Rattle.table_reader.specs.declared.TableRefusal.{TableRefusal}
 use Rattle.table_reader.specs.declared.TableRefusal.the-variants.{Short, Magic, Version, States, Start, Steps, Length, StepEnd, Doubled}
@@ -8,15 +8,15 @@ use Rattle.table_reader.specs.declared.TableRead.{TableRead}
 use Rattle.table_reader.specs.declared.TableRead.the-variants.{Good, Refused}
 
 abbrev pub tableAnswer : TableRefusal → ℕ → Answer
-tableAnswer Short file = refusal 1 file 0
-tableAnswer Magic file = refusal 2 file 0
-tableAnswer Version file = refusal 3 file 0
-tableAnswer States file = refusal 4 file 0
-tableAnswer Start file = refusal 5 file 0
-tableAnswer Steps file = refusal 6 file 0
-tableAnswer Length file = refusal 7 file 0
-tableAnswer (StepEnd j) file = refusal 8 file j
-tableAnswer (Doubled j) file = refusal 9 file j
+tableAnswer Short file = sixNumbers 1 file 0
+tableAnswer Magic file = sixNumbers 2 file 0
+tableAnswer Version file = sixNumbers 3 file 0
+tableAnswer States file = sixNumbers 4 file 0
+tableAnswer Start file = sixNumbers 5 file 0
+tableAnswer Steps file = sixNumbers 6 file 0
+tableAnswer Length file = sixNumbers 7 file 0
+tableAnswer (StepEnd j) file = sixNumbers 8 file j
+tableAnswer (Doubled j) file = sixNumbers 9 file j
 
 -- The refusal of a table, or what follows where it is good.
 abbrev pub tableThen : TableRead → ℕ → Answer → Answer

@@ -1,7 +1,7 @@
 -- The system that the bytes of Q give, by computation (document 01, Bench examples): 3 states, start 0, marks 0 0 1, steps 0-1, 1-2, 2-0. Assumes nothing.
 use Prim.Native.Nat.{ℕ}
 use mathlib.Core.Path.{_≡_, refl}
-use mathlib.Core.Bool.{Bool, true, false}
+use mathlib.Core.Bool.{true, false}
 use mathlib.Core.List.{List, [], _∷_}
 use Rattle.lists.specs.Numbers.{bigEndian}
 use Rattle.words.specs.Bits.{hasBit, addBit}

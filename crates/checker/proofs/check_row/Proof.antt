@@ -3,7 +3,7 @@ use Prim.Native.Nat.{_-_}
 use mathlib.Core.Path.{sym, ap, _∙_}
 use native.Mathlib.Omega.{arith}
 use denote.Ref.{now}
-use Rattle.words.specs.Bits.{firstBit, removeBit}
+use Rattle.words.specs.Bits.{firstBit}
 use Rattle.checker.proofs.RowLaws.{InRow, row-start, next-greater, pair-stops, pair-passes, row-end}
 use borrow.Author.Needs.{needs}
 use Rattle.checker.proofs.check_row.Statement.{statement}

@@ -1,5 +1,5 @@
 -- `checker::end_answer` meets its contract, case by case. Assumes nothing.
-use mathlib.Core.Path.{sym, ap, _∙_}
+use mathlib.Core.Path.{sym, ap}
 use Rattle.checker.specs.Progress.{endAnswer}
 use borrow.Author.Needs.{needs}
 use Rattle.checker.proofs.end_answer.Statement.{statement}

@@ -1,9 +1,7 @@
 -- `checker::judge` meets its contract: each file is read, and the first that is refused answers. Assumes nothing.
-use Prim.Native.Nat.{ℕ}
-use mathlib.Core.Path.{_≡_, sym, ap, ap₂, _∙_, subst}
+use mathlib.Core.Path.{_≡_, sym, ap, ap₂, _∙_}
 use native.Mathlib.Omega.{arith}
 use denote.Ref.{now}
-use Rattle.words.specs.Bits.{firstBit}
 use Rattle.certificates.specs.declared.Sizes.{Sizes}
 use Rattle.certificate_reader.specs.CertificateReading.{readCertificate}
 use Rattle.table_reader.specs.TableReading.{readTable}

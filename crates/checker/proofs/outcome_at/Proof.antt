@@ -1,6 +1,5 @@
 -- `checker::outcome_at` meets its contract: 2a is looked at first, and what else the obligation looks at is read off the plan and the certificate. Assumes nothing.
 use mathlib.Core.Path.{ap, _∙_}
-use Prim.Native.Nat.{ℕ}
 use denote.Ref.{now}
 use Rattle.words.specs.Bits.{firstBit}
 use Rattle.checker.proofs.PlanLaws.{outcome-answered, outcome-is}

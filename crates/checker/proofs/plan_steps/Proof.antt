@@ -1,9 +1,8 @@
 -- `checker::plan_steps` meets its contract: each turn links one step more, from the last to the first. Assumes nothing.
-use Prim.Native.Nat.{ℕ, suc, _-_, _≤_, _<_}
-use mathlib.Core.Path.{_≡_, refl, sym, ap, _∙_, subst}
+use Prim.Native.Nat.{ℕ, suc, _-_, _≤_}
+use mathlib.Core.Path.{_≡_, refl, ap, _∙_, subst}
 use native.Mathlib.Nat.{le-refl}
 use native.Mathlib.Omega.{arith}
-use lib.ListN.{getD}
 use denote.Ref.{now}
 use Rattle.words.specs.Bits.{addBit}
 use Rattle.checker.specs.Plan.{stepsIn, StepsPlanned}

@@ -1,5 +1,5 @@
 -- `lists::number` meets its contract: after i turns x is the number in the first i bytes, and i bytes never pass 64 bits. Assumes nothing.
-use Prim.Native.Nat.{ℕ, _≤_, _<_, _-_, _+_, _^_}
+use Prim.Native.Nat.{_≤_, _<_, _-_, _+_, _^_}
 use mathlib.Core.Path.{_≡_, refl, ap, _∙_}
 use native.Mathlib.Omega.{arith}
 use denote.Ref.{now}

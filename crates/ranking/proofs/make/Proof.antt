@@ -1,7 +1,6 @@
 -- `ranking::make` meets its contract: each file is read, and the first that is refused answers; then the room; then what is made. Assumes nothing.
-use Prim.Native.Nat.{ℕ, _≤_, _<_}
-use mathlib.Core.Path.{_≡_, sym, ap, _∙_, subst}
-use native.Mathlib.Omega.{arith}
+use Prim.Native.Nat.{ℕ, _≤_}
+use mathlib.Core.Path.{sym, ap, _∙_, subst}
 use lib.ListN.{length}
 use denote.Ref.{now}
 use Rattle.certificates.specs.declared.Sizes.{Sizes}

@@ -1,5 +1,5 @@
 -- `ranking::make_read` meets its contract: what the examination refuses is answered, and only where it passes the file is written. Assumes nothing.
-use mathlib.Core.Path.{_≡_, refl, sym, ap, _∙_}
+use mathlib.Core.Path.{_≡_, sym, ap, _∙_}
 use native.Mathlib.Omega.{arith}
 use lib.ListN.{length}
 use denote.Ref.{now}
@@ -7,7 +7,7 @@ use Rattle.lists.specs.Lists.{putFront}
 use Rattle.lists.proofs.FillLaws.{length-grid}
 use mathlib.Core.List.{List}
 use Prim.Native.Nat.{ℕ, _*_}
-use Rattle.tables.specs.Answers.{refusal}
+use Rattle.tables.specs.Answers.{sixNumbers}
 use Rattle.certificates.specs.declared.Sizes.{Sizes}
 use Rattle.certificates.specs.Layout.{certificateLength}
 use Rattle.certificates.specs.CertificateModel.{AreBytes}
@@ -184,7 +184,7 @@ returns-2 c =
     let q = sym (examined-is (now (a .left)) (now (a .right)) (now (a .drawing)) (p .0) (drawing-bytes w) (work w) (p .1) (p .2)) ∙ e in
     let z = c .before .before .before .before .before .before .before .before .before .before .before .before .before .before .before .before .before .before .before .before .before .before .before .before .before .before .before .before .before .before .before .before .before .before .before .before .of .ensures in
     let full = relation-ok _ (now (a .drawing)) (p .0 .drawing-good) .1 .long ∙ ap (λ (x : Sizes). 8 * x .n1) (sym z) in (
-      ap (refusal 0 0) (c .length .ensures ∙ ap certificateLength z) ∙ passed-answer (now (a .left)) (now (a .right)) (now (a .drawing)) q,
+      ap (sixNumbers 0 0) (c .length .ensures ∙ ap certificateLength z) ∙ passed-answer (now (a .left)) (now (a .right)) (now (a .drawing)) q,
       c .before .before .before .write-certificate .ensures ∙ written-front _ (now (a .drawing)) _ (now (a .output)) full
           ∙ ap (λ (f : List ℕ). putFront f (now (a .output))) (written-is (now (a .left)) (now (a .right)) (now (a .drawing)) (p .0) (drawing-bytes w) (work w) z)
           ∙ passed-output (now (a .left)) (now (a .right)) (now (a .drawing)) q (now (a .output)),

@@ -1,5 +1,5 @@
 -- `table_reader::read_sizes` meets its contract: at each return the tests before it give the definition the same way. Assumes nothing.
-use mathlib.Core.Path.{ap, _∙_}
+use mathlib.Core.Path.{ap}
 use native.Mathlib.Omega.{arith}
 use lib.ListN.{length}
 use denote.Ref.{now}
