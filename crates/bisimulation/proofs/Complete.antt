@@ -8,17 +8,18 @@ use mathlib.Core.Logic.{_⊎_, inl, inr, ⊎-elim}
 use mathlib.Core.List.{List, [], _∷_, _++_, map, append-nil, flatten}
 use native.Mathlib.Omega.{arith}
 use native.Mathlib.Decide.{decLt}
-use lib.Dec.{T, T-not, lt→ltb}
+use lib.Dec.{T, lt→ltb}
 use lib.ListN.{length}
 use Rattle.lists.specs.Lists.{All}
 use Rattle.lists.proofs.BelowLaws.{any-i}
-use Rattle.lists.proofs.BoolLaws.{and-l, and-r, and-i, or-l, or-r}
-use Rattle.bisimulation.specs.Maker.{matched, stutters, chainLength, noneUnmatched, noneEndless, succeeds}
+use Rattle.lists.proofs.BoolLaws.{and-i, or-l, or-r}
+use Rattle.bisimulation.specs.Maker.{matched, chainLength, noneUnmatched, noneEndless, succeeds}
+use Rattle.bisimulation.specs.Runs.{Matched}
 use Rattle.bisimulation.specs.StepPaths.{StepPath, endState, Cut, Fits, StepPathsMatched, StepPathProperty}
 use Rattle.bisimulation.specs.Systems.{View, flip, WellFormed}
 use Rattle.bisimulation.proofs.BlockLaws.{AllRelated, First, Later, fits-fitted}
 use Rattle.bisimulation.proofs.ClauseLaws.{flip-formed, pairs-i, initial-i, steps-i, labels-i}
-use Rattle.bisimulation.proofs.RunLaws.{run-matches, chain-some}
+use Rattle.bisimulation.proofs.RunLaws.{run-matches, matched-iff, chain-some}
 
 module _ (v : View) where
   open View v using (own, other, related, answers)
@@ -74,16 +75,18 @@ module _ (v : View) where
         (λ a. or-l (matched v j t) _ (rw (a .1) at (a .2)))
         (cross (λ i. i ≡ j) s t (j ∷ []) (l, e, tt) (refl, tt) (paths s t r (j ∷ []) (l, e, tt)))
 
-    no-chain : (s t : ℕ) → T (related s t) → own .states ≤ chainLength v t (own .states) s → ⊥
-    unfolding stutters
-    no-chain s t r h =
-        let c = chain-some v t (own .states) s in
-        ⊎-elim (λ a. omega (arith, c .2)) (λ a. let b = a .1 in T-not (matched v (a .0) t) (search (and-l, and-r)) (a .2))
-        (cross (λ j. T (stutters v t j)) s t (c .0) (c .1 .path) (c .1 .unmatched) (paths s t r (c .0) (c .1 .path)))
+    no-chain : WellFormed v → (s t : ℕ) → T (related s t) → own .states ≤ chainLength v t (own .states) s → ⊥
+    no-chain w s t r h =
+        let c = chain-some v w t (own .states) s r in
+        ⊎-elim (λ a. omega (arith, c .2)) (λ a. a .1 (matched-iff v w (a .0) t .0 (a .2)))
+        (cross (λ j. ¬ Matched v j t) s t (c .0) (c .1 .path) (c .1 .unmatched) (paths s t r (c .0) (c .1 .path)))
 
-    pub matched-none-endless : T (noneEndless v)
+    pub matched-none-endless : WellFormed v → T (noneEndless v)
     unfolding noneEndless
-    matched-none-endless = pairs-i v _ λ s t r. elim (decLt (chainLength v t (own .states) s) (own .states)) [ yes h ↦ lt→ltb _ _ h | no h ↦ absurd (no-chain s t r (omega arith)) ]
+    matched-none-endless w = pairs-i v _ λ s t r. elim (decLt (chainLength v t (own .states) s) (own .states)) [
+      | yes h ↦ lt→ltb _ _ h
+      | no h ↦ absurd (no-chain w s t r (omega arith))
+    ]
 
 pub complete : (v : View) → WellFormed v → StepPathProperty v → T (succeeds v)
 unfolding succeeds
@@ -93,6 +96,6 @@ complete v w p =
     let c = labels-i v (p .labels) in
     let d = matched-none-unmatched v (p .own-paths) in
     let e = matched-none-unmatched (flip v) (p .other-paths) in
-    let f = matched-none-endless v (p .own-paths) in
-    let g = matched-none-endless (flip v) (p .other-paths) in
+    let f = matched-none-endless v (p .own-paths) w in
+    let g = matched-none-endless (flip v) (p .other-paths) (flip-formed v w) in
     search and-i

@@ -1,20 +1,24 @@
 -- Document 01's clauses and the paper's, over the test of a step: some ranks are accepted just where some ranks meet the clauses with the
--- paper's conjunct in 2c. The key idea: the conjunct matters only where 2c holds, 2a fails, and j is silent and enters a state related to t;
--- raising the A rank of each pair with such a step ahead above all others at t gives 2b there, and lowers none that 2b used. Assumes nothing.
-use Prim.Native.Nat.{ℕ, suc, _<_}
+-- paper's conjunct in 2c, and bytes are enough for both. The key idea: the conjunct matters only where 2c holds, 2a fails, and j is silent and
+-- enters a state related to t; raising the A rank of each pair with such a step ahead above all others at t gives 2b there, and lowers none that
+-- 2b used. The ranks that the maker makes are below 64, so they are bytes when they are raised, too. Assumes nothing.
+use Prim.Native.Nat.{ℕ, suc, _≤_, _<_}
 use mathlib.Core.Path.{_≡_}
 use mathlib.Core.Logic.{_↔_, _⊎_, inl, inr, ⊎-elim}
 use mathlib.Core.Bool.{_&&_}
 use native.Mathlib.Omega.{arith}
 use lib.Dec.{T, eqb→eq}
 use Rattle.lists.specs.Below.{mostBelow}
-use Rattle.lists.proofs.BelowLaws.{any-e, any-i, most-ge}
+use Rattle.lists.proofs.BelowLaws.{any-e, any-i, most-ge, most-le}
 use Rattle.lists.proofs.BoolLaws.{and-l, and-r, and-i, T-dec, eq→eqb, cond-true, cond-false}
 use Rattle.bisimulation.specs.Clauses.{Meets2a, Meets, MeetsLiterally, EveryObligation, Certified}
 use Rattle.bisimulation.specs.Judge.{is2a, accepts}
-use Rattle.bisimulation.specs.Systems.{View, flip, Ranks, swap, WellFormed}
+use Rattle.bisimulation.specs.Maker.{made}
+use Rattle.bisimulation.specs.Systems.{View, flip, Ranks, swap, Bytes, WellFormed}
 use Rattle.bisimulation.specs.Triples.{ahead, raisedRank, raised}
 use Rattle.bisimulation.proofs.ClauseLaws.{flip-formed, is2a-e, is2a-i, accepts-iff}
+use Rattle.bisimulation.proofs.Equivalences.{succeeds-iff-bytes}
+use Rattle.bisimulation.proofs.Made.{made-small, made-accepted}
 
 certified-map : (P Q : View → Ranks → ℕ → ℕ → Type 0) (v : View) (r q : Ranks) → (EveryObligation P v r → EveryObligation Q v q)
     → (EveryObligation P (flip v) (swap r) → EveryObligation Q (flip v) (swap q)) → Certified P v r → Certified Q v q
@@ -32,6 +36,15 @@ module _ (v : View) (w : WellFormed v) (r : Ranks) where
       let b = most-ge (own .states) (λ x. r .stutter x t) u l in
       ⊎-elim (λ d. let e = cond-true (ahead v s t) top (r .stutter s t) d in omega arith)
       (λ d. let e = cond-false (ahead v s t) top (r .stutter s t) d in ⊎-elim (λ z. absurd (d z)) (λ z. omega arith) c) (T-dec (ahead v s t))
+
+  -- raising adds at most one to the greatest
+  raised-most : (N s t : ℕ) → ((x : ℕ) → r .stutter x t ≤ N) → raisedRank v r s t ≤ suc N
+  unfolding raisedRank
+  raised-most N s t h =
+      let top = mostBelow (own .states) (λ x. r .stutter x t) in
+      let a = most-le (own .states) (λ x. r .stutter x t) N (λ x l. h x) in
+      ⊎-elim (λ b. let e = cond-true (ahead v s t) (suc top) (r .stutter s t) b in omega arith)
+      (λ b. let e = cond-false (ahead v s t) (suc top) (r .stutter s t) b in omega (arith, h s)) (T-dec (ahead v s t))
 
   ahead-i : (s t k : ℕ) → k < other .steps → other .from k ≡ t → T (other .silent k) → T (related s (other .to k)) → T (ahead v s t)
   unfolding ahead
@@ -70,5 +83,23 @@ module _ (v : View) (w : WellFormed v) where
   pub literal-accepted : (r : Ranks) → Certified MeetsLiterally v r → T (accepts v r)
   literal-accepted r h = accepts-iff v w r .1 (certified-map MeetsLiterally Meets v r r (literal-meets v w r) (literal-meets (flip v) (flip-formed v w) (swap r)) h)
 
-  pub accepted-iff-literal : ((r : Ranks) × T (accepts v r)) ↔ ((r : Ranks) × Certified MeetsLiterally v r)
-  accepted-iff-literal = (λ p. (raised v (p .0), accepted-literal (p .0) (p .1)), λ p. (p .0, literal-accepted (p .0) (p .1)))
+  -- some byte ranks are accepted exactly where some byte ranks meet the paper's clauses
+  pub accepted-iff-literal : v .own .states ≤ 64 → v .other .states ≤ 64
+      → ((r : Ranks) × Bytes r × T (accepts v r)) ↔ ((r : Ranks) × Bytes r × Certified MeetsLiterally v r)
+  accepted-iff-literal a b = (
+    λ p.
+        let h = succeeds-iff-bytes v w a b .1 p in
+        let m = made-small v w h a b in
+        let c = raised-most v w (made v) 63 in
+        let d = raised-most (flip v) (flip-formed v w) (swap (made v)) 63 in (
+          raised v (made v),
+          (
+            λ s t. omega (arith, c s t (λ x. omega (arith, m .0 x t))),
+            λ j t. omega (arith, m .1 j t),
+            λ t s. omega (arith, d t s (λ x. omega (arith, m .2 x s))),
+            λ k s. omega (arith, m .3 k s),
+          ),
+          accepted-literal (made v) (made-accepted v w h),
+        ),
+    λ p. (p .0, p .1, literal-accepted (p .0) (p .2)),
+  )

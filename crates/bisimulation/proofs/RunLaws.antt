@@ -10,7 +10,7 @@ use mathlib.Core.List.{List, [], _∷_, _++_, map}
 use native.Mathlib.Nat.{not-suc-le-zero, le-refl, le-of-suc-le-suc}
 use native.Mathlib.Decide.{decLt}
 use native.Mathlib.Omega.{arith}
-use lib.Dec.{T, eqb, eqb→eq}
+use lib.Dec.{T, T-not, not-T, eqb, eqb→eq}
 use lib.ListN.{length}
 use Rattle.lists.specs.Below.{firstBelow}
 use Rattle.lists.specs.Lists.{All}
@@ -18,7 +18,7 @@ use Rattle.lists.proofs.BelowLaws.{any-e, any-i, most-ge, most-le, most-at, fir
 use Rattle.lists.proofs.BoolLaws.{and-l, and-r, and-i, or-e, or-r, eq→eqb, cond-true, cond-upto, cond-pos}
 use Rattle.bisimulation.specs.Judge.{is2a}
 use Rattle.bisimulation.specs.Maker.{matchesWithin, matched, distance, stutters, chainLength}
-use Rattle.bisimulation.specs.Runs.{MatchingRun, StutteringChain}
+use Rattle.bisimulation.specs.Runs.{MatchingRun, Matched, StutteringChain}
 use Rattle.bisimulation.specs.StepPaths.{StepPath}
 use Rattle.bisimulation.specs.Systems.{View, WellFormed}
 use Rattle.bisimulation.proofs.ClauseLaws.{is2a-e, is2a-i}
@@ -137,43 +137,70 @@ module _ (v : View) (w : WellFormed v) (j : ℕ) where
         (s .0, s .1, omega (arith, s .2, run-matched (s .0) (s .1) .1))
 
     -- matched: a run of any length exists
-    pub matched-iff : T (matched v j t) ↔ ((K : List ℕ) × MatchingRun v j t K)
+    pub matched-iff : T (matched v j t) ↔ Matched v j t
     matched-iff = (λ h. let q = matched-run h in (q .0, q .1), λ q. run-matched (q .0) (q .1) .0)
 
-module _ (v : View) (t : ℕ) where
-  open View v using (own)
+module _ (v : View) (w : WellFormed v) (t : ℕ) where
+  open View v using (own, related)
+
+  -- what the test of a step of a chain says, read off and put together
+  stutters-e : (j : ℕ) → T (stutters v t j) → T (own .silent j) × T (related (own .to j) t) × (¬ Matched v j t)
+  unfolding stutters
+  stutters-e j h = (search (and-l, and-r), search (and-l, and-r), λ m. T-not (matched v j t) (search (and-l, and-r)) (matched-iff v w j t .1 m))
+
+  stutters-i : (j : ℕ) → T (own .silent j) → T (related (own .to j) t) → (¬ Matched v j t) → T (stutters v t j)
+  unfolding stutters
+  stutters-i j a b n = let c = not-T (matched v j t) (λ m. n (matched-iff v w j t .0 m)) in search and-i
+
+  -- no step, a step less, and a step more
+  empty-chain : (s : ℕ) → T (related s t) → StutteringChain v t s []
+  empty-chain s h = record { path = tt; silent = tt; unmatched = tt; related = (h, tt) }
+
+  shorter-chain : (s j : ℕ) (J : List ℕ) → StutteringChain v t s (j ∷ J) → StutteringChain v t (own .to j) J
+  shorter-chain s j J c = record { path = c .path .2; silent = c .silent .1; unmatched = c .unmatched .1; related = c .related .1 }
+
+  longer-chain : (s j : ℕ) (J : List ℕ) → j < own .steps → own .from j ≡ s → T (related s t) → T (own .silent j) → (¬ Matched v j t)
+      → StutteringChain v t (own .to j) J → StutteringChain v t s (j ∷ J)
+  longer-chain s j J l e h a n c = record { path = (l, e, c .path); silent = (a, c .silent); unmatched = (n, c .unmatched); related = (h, c .related) }
 
   -- no chain of at most k steps is longer
   pub chain-most : (k s : ℕ) (J : List ℕ) → StutteringChain v t s J → length J ≤ k → length J ≤ chainLength v t k s
   chain-most k s [] c l = zero-le
   chain-most zero s (j ∷ J) c l = absurd (not-suc-le-zero l)
   chain-most (suc k) s (j ∷ J) c l =
-      omega (arith, chain-most k (own .to j) J (record { path = c .path .2; unmatched = c .unmatched .1 }) (omega arith), chain-step v t k s j (c .path .0) (and-i (eqb (own .from j) s) (stutters v t j) (eq→eqb _ _ (c .path .1)) (c .unmatched .0)))
+      let i = chain-most k (own .to j) J (shorter-chain s j J c) (omega arith) in
+      let h = stutters-i j (c .silent .0) (c .related .1 .0) (c .unmatched .0) in
+      omega (arith, chain-step v t k s j (c .path .0) (and-i (eqb (own .from j) s) (stutters v t j) (eq→eqb _ _ (c .path .1)) h))
 
   -- and one is as long
-  pub chain-some : (k s : ℕ) → (J : List ℕ) × StutteringChain v t s J × (length J ≡ chainLength v t k s)
+  pub chain-some : (k s : ℕ) → T (related s t) → (J : List ℕ) × StutteringChain v t s J × (length J ≡ chainLength v t k s)
   unfolding chainLength
-  chain-some zero s = ([], record { path = tt; unmatched = tt }, refl)
-  chain-some (suc k) s = go (chainLength v t (suc k) s) refl (λ j. chain-some k (own .to j))
+  chain-some zero s h = ([], empty-chain s h, refl)
+  chain-some (suc k) s h = go (chainLength v t (suc k) s) refl (λ j. chain-some k (own .to j))
     where
-      go : (c : ℕ) → chainLength v t (suc k) s ≡ c → ((j : ℕ) → (J : List ℕ) × StutteringChain v t (own .to j) J × (length J ≡ chainLength v t k (own .to j))) → (J : List ℕ) × StutteringChain v t s J × (length J ≡ chainLength v t (suc k) s)
-      go zero e rec = ([], record { path = tt; unmatched = tt }, sym e)
+      go : (c : ℕ) → chainLength v t (suc k) s ≡ c
+          → ((j : ℕ) → T (related (own .to j) t) → (J : List ℕ) × StutteringChain v t (own .to j) J × (length J ≡ chainLength v t k (own .to j)))
+          → (J : List ℕ) × StutteringChain v t s J × (length J ≡ chainLength v t (suc k) s)
+      go zero e rec = ([], empty-chain s h, sym e)
       go (suc b) e rec =
           let q : b < chainLength v t (suc k) s = omega (arith, e) in
           let r = most-at _ _ b q in
           let j = r .0 in
-          let d = cond-pos (eqb (own .from j) s && stutters v t j) (suc (chainLength v t k (own .to j))) b (r .2) in
-          let o = d .0 in
-          let i = rec j in
-          (j ∷ i .0, record { path = (r .1, eqb→eq _ _ (search and-l), i .1 .path); unmatched = (search and-r, i .1 .unmatched) }, omega (arith, i .2, d .1, chain-step v t k s j (r .1) o))
+          let d = cond-pos (inChain v t s j) (suc (chainLength v t k (own .to j))) b (r .2) in
+          let p = stutters-e j (and-r (eqb (own .from j) s) _ (d .0)) in
+          let i = rec j (p .1) in (
+            j ∷ i .0,
+            longer-chain s j (i .0) (r .1) (eqb→eq _ _ (and-l (eqb (own .from j) s) _ (d .0))) h (p .0) (p .2) (i .1),
+            omega (arith, i .2, d .1, chain-step v t k s j (r .1) (d .0)),
+          )
 
   -- the first k steps of a chain are a chain
   chain-prefix : (k s : ℕ) (J : List ℕ) → StutteringChain v t s J → k ≤ length J → (I : List ℕ) × StutteringChain v t s I × (length I ≡ k)
-  chain-prefix zero s J c l = ([], record { path = tt; unmatched = tt }, refl)
+  chain-prefix zero s J c l = ([], empty-chain s (c .related .0), refl)
   chain-prefix (suc k) s [] c l = absurd (not-suc-le-zero l)
   chain-prefix (suc k) s (j ∷ J) c l =
-      let i = chain-prefix k (own .to j) J (record { path = c .path .2; unmatched = c .unmatched .1 }) (le-of-suc-le-suc l) in
-      (j ∷ i .0, record { path = (c .path .0, c .path .1, i .1 .path); unmatched = (c .unmatched .0, i .1 .unmatched) }, ap suc (i .2))
+      let i = chain-prefix k (own .to j) J (shorter-chain s j J c) (le-of-suc-le-suc l) in
+      (j ∷ i .0, longer-chain s j (i .0) (c .path .0) (c .path .1) (c .related .0) (c .silent .0) (c .unmatched .0) (i .1), ap suc (i .2))
 
   -- where no chain of k steps was found, no chain of whatever length is longer than the one found
   pub chain-longest : (k s : ℕ) (J : List ℕ) → StutteringChain v t s J → chainLength v t k s < k → length J ≤ chainLength v t k s

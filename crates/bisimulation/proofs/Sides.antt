@@ -4,54 +4,59 @@
 -- Assumes nothing.
 use Prim.Native.Nat.{ℕ, zero, suc, _≤_, _<_}
 use mathlib.Core.Path.{_≡_, refl, sym, ap, subst, _∙_}
-use mathlib.Core.Logic.{_⊎_, inl, inr, ⊎-elim}
+use mathlib.Core.Logic.{_↔_, _⊎_, inl, inr, ⊎-elim}
 use mathlib.Core.HLevel.{Σ-prop-path}
 use mathlib.Core.Bool.{_&&_, _||_}
-use mathlib.Core.List.{List, [], _∷_}
+use mathlib.Core.List.{List, [], _∷_, map}
 use native.Mathlib.Nat.{le-of-suc-le-suc, not-suc-le-zero, le-refl}
 use native.Mathlib.Bridge.{le-prop}
 use native.Mathlib.Omega.{arith}
 use native.Mathlib.Decide.{decLt}
-use lib.Dec.{T, T-not, lt→ltb}
+use lib.Dec.{T, lt→ltb}
 use lib.ListN.{length}
 use Rattle.lists.specs.Lists.{All}
-use Rattle.lists.proofs.BoolLaws.{and-l, and-r, and-i, or-l, or-r, T-dec}
-use Rattle.bisimulation.specs.Maker.{matched, stutters, chainLength, noneUnmatched, noneEndless}
-use Rattle.bisimulation.specs.Namjoshi.{NoDescent, Clause2a, Clause2b, Clause2c, State, joint, Related, Bisimulation}
-use Rattle.bisimulation.specs.Runs.{MatchingRun}
+use Rattle.lists.proofs.BoolLaws.{and-i, or-l, or-r, T-dec}
+use Rattle.bisimulation.specs.Maker.{matched, chainLength, noneUnmatched, noneEndless}
+use Rattle.bisimulation.specs.Namjoshi.{NoDescent, Clause2a, Clause2b, Clause2cOpen, Clause2c, BisimulationBy, State, joint, Related, Bisimulation, BisimulationWithoutConjunct}
+use Rattle.bisimulation.specs.Runs.{MatchingRun, Matched, StutteringChain}
 use Rattle.bisimulation.specs.StepPaths.{StepPath}
-use Rattle.bisimulation.specs.Systems.{System, Step, View, flip, WellFormed, Plain}
+use Rattle.bisimulation.specs.Systems.{System, Step, View, flip, WellFormed, Plain, LabelsEqual}
 use Rattle.bisimulation.proofs.ClauseLaws.{pairs-i, steps-i}
 use Rattle.bisimulation.proofs.Pigeonhole.{no-walk, pigeon}
-use Rattle.bisimulation.proofs.RunLaws.{run-matched, chain-some}
+use Rattle.bisimulation.proofs.RunLaws.{matched-iff, chain-some}
 
--- one of the three clauses, in the joint system
-abbrev JointMeets {ℓ κ} : (v : View) {W : Type ℓ} → (W → W → Type κ) → (joint v .S → joint v .S → joint v .S → W) → joint v .S → joint v .S → joint v .S → Type κ
-JointMeets v ≺ rank s t u = Clause2a (joint v) ≺ rank (Related v) s t u ⊎ Clause2b (joint v) ≺ rank (Related v) s t u ⊎ Clause2c (joint v) ≺ rank (Related v) s t u
+-- one of three clauses for one of three others
+pub clauses-map {κ λ′} : {A A′ : Type 0} {B C : Type κ} {B′ C′ : Type λ′} → (A → A′) → (B → B′) → (C → A′ ⊎ B′ ⊎ C′) → A ⊎ B ⊎ C → A′ ⊎ B′ ⊎ C′
+clauses-map f g h (inl a) = inl (f a)
+clauses-map f g h (inr (inl b)) = inr (inl (g b))
+clauses-map f g h (inr (inr c)) = h c
 
--- clause 2 for an own state s, its step to u, and a state t of the other
+-- the paper's clauses for an own state s, its step to u, and a state t of the other
 module _ {ℓ κ} (v : View) {W : Type ℓ} (≺ : W → W → Type κ) (ρ : State (v .own) → State (v .own) → State (v .other) → W) where
   open View v using (own, other, related)
 
-  abbrev pub Met : State own → State other → State own → Type κ
-  Met s t u =
-      ((x : State other) × Step other (t .0) (x .0) × T (related (u .0) (x .0))) ⊎ (T (related (u .0) (t .0)) × ≺ (ρ u u t) (ρ s s t))
-      ⊎ ((¬ T (related (u .0) (t .0))) × ((x : State other) × Step other (t .0) (x .0) × T (related (s .0) (x .0)) × ≺ (ρ u s x) (ρ u s t)))
+  abbrev pub Side2a : State own → State other → State own → Type 0
+  Side2a s t u = (x : State other) × Step other (t .0) (x .0) × T (related (u .0) (x .0))
 
-  abbrev pub OneSide : Type κ
-  OneSide = (s : State own) (t : State other) → T (related (s .0) (t .0)) → (u : State own) → Step own (s .0) (u .0) → Met s t u
+  abbrev pub Side2b : State own → State other → State own → Type κ
+  Side2b s t u = T (related (u .0) (t .0)) × ≺ (ρ u u t) (ρ s s t)
 
-at-right {κ} : {X Y : Type 0} (P : X ⊎ Y → Type κ) → ((x : X) → P (inl x) → ⊥) → (a : X ⊎ Y) → P a → (y : Y) × P (inr y)
-at-right P f (inl x) p = absurd (f x p)
-at-right P f (inr y) p = (y, p)
+  abbrev pub Side2cOpen : State own → State other → State own → Type κ
+  Side2cOpen s t u = (x : State other) × Step other (t .0) (x .0) × T (related (s .0) (x .0)) × ≺ (ρ u s x) (ρ u s t)
 
-at-left {κ} : {X Y : Type 0} (P : X ⊎ Y → Type κ) → ((y : Y) → P (inr y) → ⊥) → (a : X ⊎ Y) → P a → (x : X) × P (inl x)
-at-left P f (inl x) p = (x, p)
-at-left P f (inr y) p = absurd (f y p)
+  abbrev pub Side2c : State own → State other → State own → Type κ
+  Side2c s t u = (¬ T (related (u .0) (t .0))) × Side2cOpen s t u
 
--- the joint clauses are the two sides' clauses
+  -- clause 2, with the third clause left open
+  abbrev pub Met : (State own → State other → State own → Type κ) → State own → State other → State own → Type κ
+  Met Third s t u = Side2a s t u ⊎ Side2b s t u ⊎ Third s t u
+
+  abbrev pub OneSide : (State own → State other → State own → Type κ) → Type κ
+  OneSide Third = (s : State own) (t : State other) → T (related (s .0) (t .0)) → (u : State own) → Step own (s .0) (u .0) → Met Third s t u
+
+-- the clauses of the joint system are the two sides' clauses
 module _ {ℓ κ} (v : View) {W : Type ℓ} (≺ : W → W → Type κ) (rank : joint v .S → joint v .S → joint v .S → W) where
-  open View v using (own, other, related)
+  open View v using (own, other)
 
   abbrev pub onLeft : State own → State own → State other → W
   onLeft u s t = rank (inl u) (inl s) (inr t)
@@ -59,54 +64,87 @@ module _ {ℓ κ} (v : View) {W : Type ℓ} (≺ : W → W → Type κ) (rank : 
   abbrev pub onRight : State other → State other → State own → W
   onRight u s t = rank (inr u) (inr s) (inl t)
 
-  pub left-side : Bisimulation v ≺ rank → OneSide v ≺ onLeft
-  left-side b s t h u e =
-      ⊎-elim (λ a. let q = at-right (λ x. joint v ._⟶_ (inr t) x × Related v (inl u) x) (λ x p. p .0) (a .0) (a .1, a .2) in inl (q .0, q .1 .0, q .1 .1))
-      (λ a. inr (⊎-elim (λ c. inl c) (λ c.
-      let q = at-right (λ x. joint v ._⟶_ (inr t) x × Related v (inl s) x × ≺ (rank (inl u) (inl s) x) (rank (inl u) (inl s) (inr t))) (λ x p. p .0) (c .1 .0) (c .1 .1, c .1 .2, c .1 .3) in
-      inr (c .0, (q .0, q .1 .0, q .1 .1, q .1 .2))) a)) (b .clause2 (inl s) (inr t) h (inl u) e)
+  -- for any third clause that says the same of the joint system and of the sides
+  module _ (Third : joint v .S → joint v .S → joint v .S → Type κ)
+      (X : State own → State other → State own → Type κ) (Y : State other → State own → State other → Type κ)
+      (x : (s : State own) (t : State other) (u : State own) → Third (inl s) (inr t) (inl u) ↔ X s t u)
+      (y : (s : State other) (t : State own) (u : State other) → Third (inr s) (inl t) (inr u) ↔ Y s t u) where
+    to-sides : WellFormed v → BisimulationBy (joint v) ≺ rank (Related v) Third → LabelsEqual v × OneSide v ≺ onLeft X × OneSide (flip v) ≺ onRight Y
+    to-sides w b = (
+      λ s t h. b .clause1 (inl (s, w .here .related< s t h)) (inr (t, w .there .related< t s h)) h,
+      λ s t h u e. clauses-map (left-2a s t u) (λ c. c) (λ c. inr (inr (x s t u .0 c))) (b .clause2 (inl s) (inr t) h (inl u) e),
+      λ s t h u e. clauses-map (right-2a s t u) (λ c. c) (λ c. inr (inr (y s t u .0 c))) (b .clause2 (inr s) (inl t) h (inr u) e),
+    )
+      where
+        left-2a : (s : State own) (t : State other) (u : State own)
+            → Clause2a (joint v) ≺ rank (Related v) (inl s) (inr t) (inl u) → Side2a v ≺ onLeft s t u
+        left-2a s t u (inl z, e, g) = absurd e
+        left-2a s t u (inr z, e, g) = (z, e, g)
 
-  pub right-side : Bisimulation v ≺ rank → OneSide (flip v) ≺ onRight
-  right-side b s t h u e =
-      ⊎-elim (λ a. let q = at-left (λ x. joint v ._⟶_ (inl t) x × Related v (inr u) x) (λ x p. p .0) (a .0) (a .1, a .2) in inl (q .0, q .1 .0, q .1 .1))
-      (λ a. inr (⊎-elim (λ c. inl c) (λ c.
-      let q = at-left (λ x. joint v ._⟶_ (inl t) x × Related v (inr s) x × ≺ (rank (inr u) (inr s) x) (rank (inr u) (inr s) (inl t))) (λ x p. p .0) (c .1 .0) (c .1 .1, c .1 .2, c .1 .3) in
-      inr (c .0, (q .0, q .1 .0, q .1 .1, q .1 .2))) a)) (b .clause2 (inr s) (inl t) h (inr u) e)
+        right-2a : (s : State other) (t : State own) (u : State other)
+            → Clause2a (joint v) ≺ rank (Related v) (inr s) (inl t) (inr u) → Side2a (flip v) ≺ onRight s t u
+        right-2a s t u (inl z, e, g) = (z, e, g)
+        right-2a s t u (inr z, e, g) = absurd e
 
-  pub both-sides : ((s t : ℕ) → T (related s t) → own .label s ≡ other .label t) → OneSide v ≺ onLeft → OneSide (flip v) ≺ onRight → Bisimulation v ≺ rank
-  both-sides m f g = record { symmetric = sy; clause1 = c1; clause2 = c2 }
+    of-sides : LabelsEqual v × OneSide v ≺ onLeft X × OneSide (flip v) ≺ onRight Y → BisimulationBy (joint v) ≺ rank (Related v) Third
+    of-sides p = record { symmetric = sy; clause1 = c1; clause2 = c2 }
+      where
+        sy : (s t : joint v .S) → Related v s t → Related v t s
+        sy (inl s) (inl t) h = h
+        sy (inl s) (inr t) h = h
+        sy (inr s) (inl t) h = h
+        sy (inr s) (inr t) h = h
+
+        c1 : (s t : joint v .S) → Related v s t → joint v .L s ≡ joint v .L t
+        c1 (inl s) (inl t) h = absurd h
+        c1 (inl s) (inr t) h = p .0 (s .0) (t .0) h
+        c1 (inr s) (inl t) h = sym (p .0 (t .0) (s .0) h)
+        c1 (inr s) (inr t) h = absurd h
+
+        c2 : (s t : joint v .S) → Related v s t → (u : joint v .S) → joint v ._⟶_ s u
+            → Clause2a (joint v) ≺ rank (Related v) s t u ⊎ Clause2b (joint v) ≺ rank (Related v) s t u ⊎ Third s t u
+        c2 (inl s) (inl t) h (inl u) e = absurd h
+        c2 (inl s) (inl t) h (inr u) e = absurd h
+        c2 (inl s) (inr t) h (inl u) e = clauses-map (λ a. (inr (a .0), a .1, a .2)) (λ b. b) (λ c. inr (inr (x s t u .1 c))) (p .1 s t h u e)
+        c2 (inl s) (inr t) h (inr u) e = absurd e
+        c2 (inr s) (inl t) h (inl u) e = absurd e
+        c2 (inr s) (inl t) h (inr u) e = clauses-map (λ a. (inl (a .0), a .1, a .2)) (λ b. b) (λ c. inr (inr (y s t u .1 c))) (p .2 s t h u e)
+        c2 (inr s) (inr t) h (inl u) e = absurd h
+        c2 (inr s) (inr t) h (inr u) e = absurd h
+
+  left-open : (s : State own) (t : State other) (u : State own)
+      → Clause2cOpen (joint v) ≺ rank (Related v) (inl s) (inr t) (inl u) ↔ Side2cOpen v ≺ onLeft s t u
+  left-open s t u = (go, λ c. (inr (c .0), c .1, c .2, c .3))
     where
-      sy : (s t : joint v .S) → Related v s t → Related v t s
-      sy (inl s) (inl t) h = h
-      sy (inl s) (inr t) h = h
-      sy (inr s) (inl t) h = h
-      sy (inr s) (inr t) h = h
+      go : Clause2cOpen (joint v) ≺ rank (Related v) (inl s) (inr t) (inl u) → Side2cOpen v ≺ onLeft s t u
+      go (inl z, e, g, i) = absurd e
+      go (inr z, e, g, i) = (z, e, g, i)
 
-      c1 : (s t : joint v .S) → Related v s t → joint v .L s ≡ joint v .L t
-      c1 (inl s) (inl t) h = absurd h
-      c1 (inl s) (inr t) h = m (s .0) (t .0) h
-      c1 (inr s) (inl t) h = sym (m (t .0) (s .0) h)
-      c1 (inr s) (inr t) h = absurd h
+  right-open : (s : State other) (t : State own) (u : State other)
+      → Clause2cOpen (joint v) ≺ rank (Related v) (inr s) (inl t) (inr u) ↔ Side2cOpen (flip v) ≺ onRight s t u
+  right-open s t u = (go, λ c. (inl (c .0), c .1, c .2, c .3))
+    where
+      go : Clause2cOpen (joint v) ≺ rank (Related v) (inr s) (inl t) (inr u) → Side2cOpen (flip v) ≺ onRight s t u
+      go (inl z, e, g, i) = (z, e, g, i)
+      go (inr z, e, g, i) = absurd e
 
-      to-left : (s : State own) (t : State other) (u : State own) → Met v ≺ onLeft s t u → JointMeets v ≺ rank (inl s) (inr t) (inl u)
-      to-left s t u (inl a) = inl (inr (a .0), a .1, a .2)
-      to-left s t u (inr (inl a)) = inr (inl a)
-      to-left s t u (inr (inr a)) = inr (inr (a .0, (inr (a .1 .0), a .1 .1, a .1 .2, a .1 .3)))
+  -- without the conjunct of 2c
+  pub open-sides : WellFormed v → BisimulationWithoutConjunct v ≺ rank
+      ↔ (LabelsEqual v × OneSide v ≺ onLeft (Side2cOpen v ≺ onLeft) × OneSide (flip v) ≺ onRight (Side2cOpen (flip v) ≺ onRight))
+  open-sides w = (to-sides _ _ _ left-open right-open w, of-sides _ _ _ left-open right-open)
 
-      to-right : (s : State other) (t : State own) (u : State other) → Met (flip v) ≺ onRight s t u → JointMeets v ≺ rank (inr s) (inl t) (inr u)
-      to-right s t u (inl a) = inl (inl (a .0), a .1, a .2)
-      to-right s t u (inr (inl a)) = inr (inl a)
-      to-right s t u (inr (inr a)) = inr (inr (a .0, (inl (a .1 .0), a .1 .1, a .1 .2, a .1 .3)))
+  -- and with it
+  pub literal-sides : WellFormed v → Bisimulation v ≺ rank
+      ↔ (LabelsEqual v × OneSide v ≺ onLeft (Side2c v ≺ onLeft) × OneSide (flip v) ≺ onRight (Side2c (flip v) ≺ onRight))
+  literal-sides w = (to-sides _ _ _ left right w, of-sides _ _ _ left right)
+    where
+      left : (s : State own) (t : State other) (u : State own)
+          → Clause2c (joint v) ≺ rank (Related v) (inl s) (inr t) (inl u) ↔ Side2c v ≺ onLeft s t u
+      left s t u = (λ c. (c .0, left-open s t u .0 (c .1)), λ c. (c .0, left-open s t u .1 (c .1)))
 
-      c2 : (s t : joint v .S) → Related v s t → (u : joint v .S) → joint v ._⟶_ s u → JointMeets v ≺ rank s t u
-      c2 (inl s) (inl t) h (inl u) e = absurd h
-      c2 (inl s) (inl t) h (inr u) e = absurd h
-      c2 (inl s) (inr t) h (inl u) e = to-left s t u (f s t h u e)
-      c2 (inl s) (inr t) h (inr u) e = absurd e
-      c2 (inr s) (inl t) h (inl u) e = absurd e
-      c2 (inr s) (inl t) h (inr u) e = to-right s t u (g s t h u e)
-      c2 (inr s) (inr t) h (inl u) e = absurd h
-      c2 (inr s) (inr t) h (inr u) e = absurd h
+      right : (s : State other) (t : State own) (u : State other)
+          → Clause2c (joint v) ≺ rank (Related v) (inr s) (inl t) (inr u) ↔ Side2c (flip v) ≺ onRight s t u
+      right s t u = (λ c. (c .0, right-open s t u .0 (c .1)), λ c. (c .0, right-open s t u .1 (c .1)))
 
 -- the i-th state of the path from s, its last where it is shorter
 visit : System → ℕ → List ℕ → ℕ → ℕ
@@ -114,28 +152,27 @@ visit X s [] i = s
 visit X s (j ∷ J) zero = s
 visit X s (j ∷ J) (suc i) = visit X (X .to j) J i
 
-module _ (v : View) (t : ℕ) where
-  open View v using (own, related)
+module _ (X : System) where
+  visit-all : (P : ℕ → Type 0) (J : List ℕ) (s : ℕ) → All P (s ∷ map (X .to) J) → (i : ℕ) → P (visit X s J i)
+  unfolding visit
+  visit-all P [] s a i = a .0
+  visit-all P (j ∷ J) s a zero = a .0
+  visit-all P (j ∷ J) s a (suc i) = visit-all P J (X .to j) (a .1) i
 
-  visit-rel : (J : List ℕ) (s : ℕ) → T (related s t) → All (λ j. T (stutters v t j)) J → (i : ℕ) → T (related (visit own s J i) t)
-  unfolding visit stutters
-  visit-rel [] s h a i = h
-  visit-rel (j ∷ J) s h a zero = h
-  visit-rel (j ∷ J) s h a (suc i) = let b = a .0 in visit-rel J (own .to j) (search (and-l, and-r)) (a .1) i
-
-  visit-zero : (J : List ℕ) (s : ℕ) → visit own s J 0 ≡ s
+  visit-zero : (J : List ℕ) (s : ℕ) → visit X s J 0 ≡ s
   unfolding visit
   visit-zero [] s = refl
   visit-zero (j ∷ J) s = refl
 
-  visit-step : (J : List ℕ) (s : ℕ) → StepPath own s J → All (λ j. T (stutters v t j)) J → (i : ℕ) → i < length J
-      → (j : ℕ) × (j < own .steps) × (own .from j ≡ visit own s J i) × (own .to j ≡ visit own s J (suc i)) × T (stutters v t j)
+  visit-step : (P : ℕ → Type 0) (J : List ℕ) (s : ℕ) → StepPath X s J → All P J → (i : ℕ) → i < length J
+      → (j : ℕ) × (j < X .steps) × (X .from j ≡ visit X s J i) × (X .to j ≡ visit X s J (suc i)) × P j
   unfolding visit
-  visit-step [] s p a i l = absurd (not-suc-le-zero l)
-  visit-step (j ∷ J) s p a zero l = (j, p .0, p .1, sym (visit-zero J (own .to j)), a .0)
-  visit-step (j ∷ J) s p a (suc i) l = visit-step J (own .to j) (p .2) (a .1) i (le-of-suc-le-suc l)
+  visit-step P [] s p a i l = absurd (not-suc-le-zero l)
+  visit-step P (j ∷ J) s p a zero l = (j, p .0, p .1, sym (visit-zero J (X .to j)), a .0)
+  visit-step P (j ∷ J) s p a (suc i) l = visit-step P J (X .to j) (p .2) (a .1) i (le-of-suc-le-suc l)
 
-module _ {ℓ κ} (v : View) (w : WellFormed v) (k : Plain v) {W : Type ℓ} (≺ : W → W → Type κ) (nd : NoDescent ≺) (ρ : State (v .own) → State (v .own) → State (v .other) → W) (O : OneSide v ≺ ρ) where
+module _ {ℓ κ} (v : View) (w : WellFormed v) (k : Plain v) {W : Type ℓ} (≺ : W → W → Type κ) (nd : NoDescent ≺)
+    (ρ : State (v .own) → State (v .own) → State (v .other) → W) (O : OneSide v ≺ ρ (Side2c v ≺ ρ)) where
   open View v using (own, other, related)
 
   -- an answer at t is a run with no step inside, and a step before a run makes a longer one
@@ -157,18 +194,18 @@ module _ {ℓ κ} (v : View) (w : WellFormed v) (k : Plain v) {W : Type ℓ} (�
     record Stuck : Type 0 where
       at : State other
       here : T (related (own .from j) (at .0))
-      never : (K : List ℕ) → MatchingRun v j (at .0) K → ⊥
+      never : ¬ Matched v j (at .0)
       apart : T (related (own .to j) (at .0)) → ⊥
 
     stuck-next : (x : Stuck) → (y : Stuck) × ≺ (ρ u₀ s₀ (y .at)) (ρ u₀ s₀ (x .at))
     stuck-next x =
-        ⊎-elim (λ a. absurd (x .never [] (one-run j (x .at .0) (x .here) (a .0 .0, a .1, a .2))))
+        ⊎-elim (λ a. absurd (x .never ([], one-run j (x .at .0) (x .here) (a .0 .0, a .1, a .2))))
         (λ a. ⊎-elim (λ b. absurd (x .apart (b .0))) (λ b. let c = b .1 in (
           record {
             at = c .0;
             here = c .2;
-            never = λ K r. x .never (c .1 .0 ∷ K) (longer-run j (x .at .0) (c .0 .0) K (x .here) (c .1) r);
-            apart = λ p. x .never [] (one-run j (x .at .0) (x .here) (c .0 .0, c .1, p));
+            never = λ m. x .never (c .1 .0 ∷ m .0, longer-run j (x .at .0) (c .0 .0) (m .0) (x .here) (c .1) (m .1));
+            apart = λ p. x .never ([], one-run j (x .at .0) (x .here) (c .0 .0, c .1, p));
           },
           c .3,
         )) a)
@@ -182,7 +219,7 @@ module _ {ℓ κ} (v : View) (w : WellFormed v) (k : Plain v) {W : Type ℓ} (�
         ⊎-elim (λ a. or-l (matched v j t) _ a)
         (λ a.
         ⊎-elim (λ b. or-r (matched v j t) _ (let c = k .silent j in search and-i))
-        (λ b. absurd (not-stuck (record { at = (t, w .there .related< t (own .from j) h); here = h; never = λ K r. a (run-matched v w j t K r .0); apart = b })))
+        (λ b. absurd (not-stuck (record { at = (t, w .there .related< t (own .from j) h); here = h; never = λ m. a (matched-iff v w j t .1 m); apart = b })))
         (T-dec (related (own .to j) t)))
         (T-dec (matched v j t))
 
@@ -190,23 +227,22 @@ module _ {ℓ κ} (v : View) (w : WellFormed v) (k : Plain v) {W : Type ℓ} (�
   unfolding noneUnmatched
   side-none-unmatched = pairs-i v _ λ s t r. steps-i v s _ λ j l e. obligation-passes j l t (rw e r)
 
-  module _ (s t : ℕ) (h : T (related s t)) (J : List ℕ) (p : StepPath own s J) (a : All (λ j. T (stutters v t j)) J) (long : own .states ≤ length J) where
+  module _ (s t : ℕ) (J : List ℕ) (c : StutteringChain v t s J) (long : own .states ≤ length J) where
     abbrev t₁ : State other
-    t₁ = (t, w .there .related< t s h)
+    t₁ = (t, w .there .related< t s (c .related .0))
+
+    near : (i : ℕ) → T (related (visit own s J i) t)
+    near = visit-all own (λ x. T (related x t)) J s (c .related)
 
     abbrev on : ℕ → State own
-    on i = (visit own s J i, w .here .related< _ t (visit-rel v t J s h a i))
-
-    unmatched : (j : ℕ) → T (stutters v t j) → MatchingRun v j t [] → ⊥
-    unfolding stutters
-    unmatched j b r = T-not (matched v j t) (search (and-l, and-r)) (run-matched v w j t [] r .0)
+    on i = (visit own s J i, w .here .related< _ t (near i))
 
     falls : (i : ℕ) → i < own .states → ≺ (ρ (on (suc i)) (on (suc i)) t₁) (ρ (on i) (on i) t₁)
     falls i l =
-        let q = visit-step v t J s p a i (omega arith) in
-        ⊎-elim (λ b. absurd (unmatched (q .0) (q .4) (one-run (q .0) t (rw (q .2) (visit-rel v t J s h a i)) (b .0 .0, b .1, rw (q .3) (b .2)))))
-        (λ b. ⊎-elim (λ c. c .1) (λ c. absurd (c .0 (visit-rel v t J s h a (suc i)))) b)
-        (O (on i) t₁ (visit-rel v t J s h a i) (on (suc i)) (q .0, q .1, q .2, q .3))
+        let q = visit-step own (λ j. ¬ Matched v j t) J s (c .path) (c .unmatched) i (omega arith) in
+        ⊎-elim (λ b. absurd (q .4 ([], one-run (q .0) t (rw (q .2) (near i)) (b .0 .0, b .1, rw (q .3) (b .2)))))
+        (λ b. ⊎-elim (λ d. d .1) (λ d. absurd (d .0 (near (suc i)))) b)
+        (O (on i) t₁ (near i) (on (suc i)) (q .0, q .1, q .2, q .3))
 
     -- round and round from the first of two equal states to the second
     no-long : ⊥
@@ -231,5 +267,5 @@ module _ {ℓ κ} (v : View) (w : WellFormed v) (k : Plain v) {W : Type ℓ} (�
   unfolding noneEndless
   side-none-endless = pairs-i v _ λ s t r. elim (decLt (chainLength v t (own .states) s) (own .states)) [
     | yes h ↦ lt→ltb _ _ h
-    | no h ↦ absurd (let c = chain-some v t (own .states) s in no-long s t r (c .0) (c .1 .path) (c .1 .unmatched) (omega (arith, c .2)))
+    | no h ↦ absurd (let c = chain-some v w t (own .states) s r in no-long s t (c .0) (c .1) (omega (arith, c .2)))
   ]

@@ -30,14 +30,27 @@ module _ {ℓ κ} (A : TransitionSystem) {W : Type ℓ} (_≺_ : W → W → Typ
   abbrev pub Clause2b : S → S → S → Type κ
   Clause2b s t u = B u t × (rank u u t ≺ rank s s t)
 
+  -- (c) without its conjunct (u, t) ∉ B: there is v with t → v, (s, v) ∈ B and rank.(u, s, v) ≺ rank.(u, s, t)
+  abbrev pub Clause2cOpen : S → S → S → Type κ
+  Clause2cOpen s t u = (v : S) × (t ⟶ v) × B s v × (rank u s v ≺ rank u s t)
+
   -- (c) (u, t) ∉ B and there is v with t → v, (s, v) ∈ B and rank.(u, s, v) ≺ rank.(u, s, t)
   abbrev pub Clause2c : S → S → S → Type κ
-  Clause2c s t u = (¬ B u t) × ((v : S) × (t ⟶ v) × B s v × (rank u s v ≺ rank u s t))
+  Clause2c s t u = (¬ B u t) × Clause2cOpen s t u
 
-  pub record WellFoundedBisimulation : Type κ where
+  -- The definition, over what stands in the place of (c).
+  pub record BisimulationBy (Third : S → S → S → Type κ) : Type κ where
     pub symmetric : (s t : S) → B s t → B t s
     pub clause1 : (s t : S) → B s t → L s ≡ L t
-    pub clause2 : (s t : S) → B s t → (u : S) → s ⟶ u → Clause2a s t u ⊎ Clause2b s t u ⊎ Clause2c s t u
+    pub clause2 : (s t : S) → B s t → (u : S) → s ⟶ u → Clause2a s t u ⊎ Clause2b s t u ⊎ Third s t u
+
+  -- The paper's.
+  abbrev pub WellFoundedBisimulation : Type κ
+  WellFoundedBisimulation = BisimulationBy Clause2c
+
+  -- By document 01's clauses, where (c) has no such conjunct.
+  abbrev pub WellFoundedWithoutConjunct : Type κ
+  WellFoundedWithoutConjunct = BisimulationBy Clause2cOpen
 
 -- A table as a transition system: its states are the numbers below their count.
 abbrev pub State : System → Type 0
@@ -82,6 +95,10 @@ Related v = BothWays (system (v .own)) (system (v .other)) (λ s t. T (v .relate
 -- The relation is a well-founded bisimulation of the two tables, with respect to this rank.
 abbrev pub Bisimulation {ℓ κ} : (v : View) {W : Type ℓ} → (W → W → Type κ) → (joint v .S → joint v .S → joint v .S → W) → Type κ
 Bisimulation v ≺ rank = WellFoundedBisimulation (joint v) ≺ rank (Related v)
+
+-- The same by the clauses without the conjunct (u, t) ∉ B of (c).
+abbrev pub BisimulationWithoutConjunct {ℓ κ} : (v : View) {W : Type ℓ} → (W → W → Type κ) → (joint v .S → joint v .S → joint v .S → W) → Type κ
+BisimulationWithoutConjunct v ≺ rank = WellFoundedWithoutConjunct (joint v) ≺ rank (Related v)
 
 -- Each initial state of the one table is related to some initial state of the other.
 abbrev pub InitialStatesRelated : View → Type 0

@@ -4,7 +4,6 @@ use mathlib.Core.List.{List, [], _∷_, _++_, map}
 use lib.Dec.{T}
 use Rattle.lists.specs.Lists.{All}
 use Rattle.bisimulation.specs.Systems.{View}
-use Rattle.bisimulation.specs.Maker.{stutters}
 use Rattle.bisimulation.specs.StepPaths.{StepPath}
 
 -- A list of one or more states, t first, each stepping to the next by the silent steps K inside and all related to the state s that j leaves,
@@ -17,7 +16,13 @@ pub record MatchingRun (v : View) (j t : ℕ) (K : List ℕ) : Type 0 where
   pub answers : T (v .answers j last)
   pub meets : T (v .related (v .own .to j) (v .other .to last))
 
--- A chain from s of steps unmatched at t, through states related to t.
+-- The own step j is matched at t: a matching run of whatever length exists.
+abbrev pub Matched : View → ℕ → ℕ → Type 0
+Matched v j t = (K : List ℕ) × MatchingRun v j t K
+
+-- A chain from s of silent steps unmatched at t, through states related to t, s among them.
 pub record StutteringChain (v : View) (t s : ℕ) (J : List ℕ) : Type 0 where
   pub path : StepPath (v .own) s J
-  pub unmatched : All (λ j. T (stutters v t j)) J
+  pub silent : All (λ j. T (v .own .silent j)) J
+  pub unmatched : All (λ j. ¬ Matched v j t) J
+  pub related : All (λ x. T (v .related x t)) (s ∷ map (v .own .to) J)

@@ -13,9 +13,11 @@ use Rattle.bisimulation.specs.Systems.{SideFormed, WellFormed}
 use Rattle.tables.specs.declared.Head.{Head}
 use Rattle.tables.specs.Table.{statesOf}
 use Rattle.tables.specs.Model.{systemOf}
+use Rattle.answers.specs.Numbers.{sixNumbers}
 use Rattle.table_reader.specs.declared.TableRead.the-variants as table
 use Rattle.table_reader.specs.TableReading.{readTable}
-use Rattle.table_reader.proofs.TestLaws.{decides-stable, eqb-decides}
+use Rattle.answers.proofs.DecideLaws.{decides-stable, eqb-decides}
+use Rattle.answers.proofs.CauseLaws.{below-none}
 use Rattle.table_reader.proofs.TableLaws.{table-ok, TableFormed, table-formed}
 use Rattle.certificates.specs.declared.Sizes.{Sizes}
 use Rattle.certificates.specs.Layout.{sizesOf, certificateLength, rowsPart, rowOf}
@@ -25,8 +27,8 @@ use Rattle.certificates.proofs.ModelLaws.{related-left, related-bit, row-word}
 use Rattle.certificate_reader.specs.declared.CertificateRead.the-variants as read
 use Rattle.certificate_reader.specs.declared.RelationRead.the-variants as drawn
 use Rattle.certificate_reader.specs.CertificateReading.{readCertificate, readRelation}
-use Rattle.certificate_reader.specs.CertificateConditions.{HasWideBit}
-use Rattle.certificate_reader.proofs.CertificateConditionLaws.{certificate-good-none, relation-good-none}
+use Rattle.certificate_reader.specs.CertificateCauses.{HasWideBit}
+use Rattle.certificate_reader.proofs.CertificateCauseLaws.{certificate-good-none, relation-good-none}
 
 -- ---- a certificate and a relation
 
@@ -40,8 +42,13 @@ pub record CertificateOk (z : Sizes) (c : List ℕ) : Type 0 where
 
 pub certificate-ok : (z : Sizes) (c : List ℕ) {y : Sizes} → readCertificate z c ≡ read.Good y → (y ≡ z) × CertificateOk z c
 certificate-ok z c e =
-    let g = certificate-good-none z c e in
-    (g .0, record { long = decides-stable (eqb-decides (length c) (certificateLength z)) (g .1 4); narrow = λ s l w. g .1 5 (s, l, w) })
+    let g = certificate-good-none 2 z c e in (
+      g .0,
+      record {
+        long = decides-stable (eqb-decides (length c) (certificateLength z)) (g .1 .1 .1 .1 .1 .0);
+        narrow = below-none (z .n1) (HasWideBit (rowsPart c z) (z .n2)) (sixNumbers 15 2) (g .1 .1 .1 .1 .1 .1);
+      },
+    )
 
 pub record RelationOk (z : Sizes) (r : List ℕ) : Type 0 where
   pub long : length r ≡ 8 * z .n1
@@ -49,8 +56,8 @@ pub record RelationOk (z : Sizes) (r : List ℕ) : Type 0 where
 
 pub relation-ok : (z : Sizes) (r : List ℕ) {y : Sizes} → readRelation z r ≡ drawn.Good y → (y ≡ z) × RelationOk z r
 relation-ok z r e =
-    let g = relation-good-none z r e in
-    (g .0, record { long = decides-stable (eqb-decides (length r) (8 * z .n1)) (g .1 0); narrow = λ s l w. g .1 1 (s, l, w) })
+    let g = relation-good-none 2 z r e in
+    (g .0, record { long = decides-stable (eqb-decides (length r) (8 * z .n1)) (g .1 .0); narrow = below-none (z .n1) (HasWideBit r (z .n2)) (sixNumbers 15 2) (g .1 .1) })
 
 -- a certificate of two tables that are read has at most 41,483 bytes
 pub certificate-limit : (left right : List ℕ) {h k : Head} → readTable left ≡ table.Good h → readTable right ≡ table.Good k

@@ -1,15 +1,13 @@
 -- Laws of the readers' tests: each passes exactly where its cause does not apply, and a row is wide exactly where it has a bit n2 or more.
 -- Assumes nothing.
 use Prim.Native.Nat.{ℕ}
-use mathlib.Core.Bool.{Bool}
 use mathlib.Core.List.{List}
-use lib.Dec.{T}
 use Rattle.words.specs.Bits.{hasBit, hasFrom}
-use Rattle.table_reader.proofs.TestLaws.{Decides, decides-as, eqb-decides, leb-decides, and-decides, any-decides}
+use Rattle.answers.proofs.DecideLaws.{Decides, decides-as, test-decides, eqb-decides, leb-decides, and-decides, any-decides}
 use Rattle.certificates.specs.declared.Sizes.{Sizes}
 use Rattle.certificates.specs.Layout.{rowOf}
 use Rattle.certificate_reader.specs.CertificateReading.{certificateSizesFit, wideRow}
-use Rattle.certificate_reader.specs.CertificateConditions.{SizesFit, HasWideBit}
+use Rattle.certificate_reader.specs.CertificateCauses.{SizesFit, HasWideBit}
 
 pub sizes-decides : (z : Sizes) (c : List ℕ) → Decides (certificateSizesFit z c) (SizesFit z c)
 unfolding certificateSizesFit
@@ -18,9 +16,6 @@ sizes-decides z c =
     (and-decides (and-decides (and-decides (eqb-decides _ _) (eqb-decides _ _)) (eqb-decides _ _)) (eqb-decides _ _))
     (λ p. (p .0 .0 .0, p .0 .0 .1, p .0 .1, p .1))
     (λ p. (((p .0, p .1), p .2), p .3))
-
-test-decides : (b : Bool) → Decides b (T b)
-test-decides b = record { sound = λ t. t; complete = λ t. t }
 
 pub wide-decides : (rows : List ℕ) (n2 s : ℕ) → Decides (wideRow rows n2 s) (HasWideBit rows n2 s)
 unfolding wideRow hasFrom

@@ -1,3 +1,3 @@
 pub mod CertificateReading
 pub mod CertificateAnswers
-pub mod CertificateConditions
+pub mod CertificateCauses

@@ -1,11 +1,11 @@
 // The readers of certificates and of relations: for every byte string its sizes, or the one refusal whose condition and place in the order fit.
+use answers::Answer;
 use certificates::Sizes;
 use certificates::row;
 use certificates::rows;
 use lists::byte;
 use lists::read_be16;
 use table_reader::magic_fits;
-use tables::Answer;
 ghost use mathlib.Core.Path.{_≡_};
 ghost use Rattle.lists.specs.Below.{firstBelow};
 ghost use Rattle.certificate_reader.specs.CertificateReading.{certificateSizesFit, wideRow, readHeader, readCertificate, readRelation};

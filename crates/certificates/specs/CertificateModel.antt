@@ -8,7 +8,7 @@ use Rattle.words.specs.Bits.{hasBit}
 use Rattle.bisimulation.specs.Systems.{View, Ranks}
 use Rattle.tables.specs.Table.{statesOf}
 use Rattle.tables.specs.Model.{systemOf}
-use Rattle.certificates.specs.Layout.{alAt, arAt, clAt, crAt, rowOf}
+use Rattle.certificates.specs.Layout.{sizesOf, alAt, arAt, clAt, crAt, rowsPart, rowOf}
 use Rattle.certificates.specs.declared.Sizes.{Sizes}
 
 -- Each number is a byte.
@@ -32,3 +32,10 @@ ranksOf z c =
       stutter′ = λ t s. byteAt c (arAt z + (t * z .n1 + s));
       match′ = λ j s. byteAt c (crAt z + (j * z .n1 + s));
     }
+
+-- The view and the ranks that two tables and a certificate give.
+abbrev pub certifiedView : List ℕ → List ℕ → List ℕ → View
+certifiedView left right c = viewOf left right (rowsPart c (sizesOf left right))
+
+abbrev pub certifiedRanks : List ℕ → List ℕ → List ℕ → Ranks
+certifiedRanks left right c = ranksOf (sizesOf left right) c

@@ -8,6 +8,7 @@ use native.Mathlib.Omega.{arith}
 use lib.Dec.{eqb}
 use lib.ListN.{getD}
 use Rattle.lists.specs.Below.{anyBelow, sumBelow}
+use Rattle.lists.specs.Lists.{joinBelow}
 use borrow.Author.Tests.{lt-ltb}
 use Rattle.lists.proofs.BoolLaws.{not-T-false}
 use Rattle.words.specs.Bits.{hasBit, countBits}
@@ -28,12 +29,14 @@ use Rattle.certificate_reader.proofs.CertificateLaws.{certificate-ok, view-form
 use Rattle.relations.specs.Relation.{rowWords, columnWords}
 use Rattle.relations.proofs.RelationLaws.{rows-has, columns-related, rows-ones}
 use Rattle.obligations.specs.CheckAnswers.{startsAnswer, labelsAnswer}
-use Rattle.obligations.specs.Judging.{verdict, joinBelow, leftStep, rightStep, pairChecks, checks, Result, result, stepsFrom, passes, stops}
-use Rattle.checker.specs.Progress.{none, progress, endAnswer}
-use Rattle.checker.specs.Judge.{pairsIn, verdictAnswer, judged, judgedBytes}
+use Rattle.answers.specs.Verdicts.{Verdict, goOn, refusedWith, along, answerOf}
+use Rattle.obligations.specs.Judging.{leftStep, rightStep, pairChecks, checks, startsVerdict, Finding, nothing, checkVerdict, stepsFrom}
+use Rattle.checker.specs.Progress.{none, tallied, progress, acceptance, endAnswer}
+use Rattle.checker.specs.Judge.{pairsIn, judged, judgedBytes, answerAfter}
 use Rattle.checker.specs.Plan.{stepsIn, StepsFit, PlanOf, Small, rankAt, leftRun, rightRun, leftChecks, rightChecks, checksAt, rowChecks, allChecks}
-use Rattle.checker.proofs.JoinLaws.{join-cong, join-shrink, map-append, map-join, map-when}
-use Rattle.checker.proofs.VerdictLaws.{Sees, side-checks, map-steps, end-verdict}
+use Rattle.lists.proofs.JoinLaws.{join-cong, join-shrink, map-append, map-join, map-when}
+use Rattle.checker.proofs.ProgressLaws.{end-answer}
+use Rattle.checker.proofs.SideLaws.{Sees, side-checks, map-steps}
 
 -- ---- a table that is read
 
@@ -149,43 +152,44 @@ module _ (left right c : List ℕ) {h k : Head} {y : Sizes} (gl : readTable left
     unfolding sizesOf viewOf systemOf
     states-are = refl
 
-    -- the results of a pair
-    pair-is : (s t : ℕ) → s < 64 → t < 64 → checksAt (stepsPart left) (stepsPart right) ours theirs c sizes s t ≡ map (result view ranks) (pairChecks view s t)
-    unfolding checksAt pairChecks result leftChecks rightChecks
+    -- the verdicts on a pair
+    pair-is : (s t : ℕ) → s < 64 → t < 64 → checksAt (stepsPart left) (stepsPart right) ours theirs c sizes s t ≡ map (checkVerdict view ranks) (pairChecks view s t)
+    unfolding checksAt pairChecks checkVerdict leftChecks rightChecks
     pair-is s t hs ht =
-        ap₂ (λ (x : Result) (l : List Result). x ∷ l)
-        (ap₂ (λ (x z : ℕ). cond (eqb x z) passes (stops (labelsAnswer s t))) (label-left s hs) (label-right t ht))
+        ap₂ (λ (x : Verdict Finding) (l : List (Verdict Finding)). x ∷ l)
+        (ap₂ (λ (x z : ℕ). cond (eqb x z) (goOn nothing) (refusedWith (labelsAnswer s t))) (label-left s hs) (label-right t ht))
         (ap₂ _++_
         (side-checks view ranks (stepsPart left) ours _ c (leftRun sizes) _ (sees-left s t hs ht) ∙ sym (map-steps view ranks (view .own) s (leftStep s t)))
         (side-checks (flip view) (swap ranks) (stepsPart right) theirs _ c (rightRun sizes) _ (sees-right s t hs ht) ∙ sym (map-steps view ranks (view .other) t (rightStep s t)))
-        ∙ sym (map-append (result view ranks) (map (leftStep s t) (stepsFrom (view .own) s)) (map (rightStep s t) (stepsFrom (view .other) t))))
+        ∙ sym (map-append (checkVerdict view ranks) (map (leftStep s t) (stepsFrom (view .own) s)) (map (rightStep s t) (stepsFrom (view .other) t))))
 
     -- of a left state
     row-is : (s : ℕ) → s < 64 → rowChecks (stepsPart left) (stepsPart right) ours theirs c sizes s
-        ≡ map (result view ranks) (joinBelow (view .other .states) (λ t. cond (view .related s t) (pairChecks view s t) []))
+        ≡ map (checkVerdict view ranks) (joinBelow (view .other .states) (λ t. cond (view .related s t) (pairChecks view s t) []))
     unfolding rowChecks
     row-is s hs =
         join-shrink (view .other .states) 64 at (few .1) (λ t b l. ap (λ (x : Bool). cond x (checksAt (stepsPart left) (stepsPart right) ours theirs c sizes s t) []) (related-are s t hs ∙ not-T-false (view .related s t) (λ r. let z = formed .there .related< t s r in omega arith)))
-        ∙ join-cong (view .other .states) at there (λ t l. ap (λ (x : Bool). cond x (checksAt (stepsPart left) (stepsPart right) ours theirs c sizes s t) []) (related-are s t hs) ∙ ap (λ (x : List Result). cond (view .related s t) x []) (pair-is s t hs (omega (arith, few .1, l))))
-        ∙ sym (map-join (result view ranks) (view .other .states) _ ∙ join-cong (view .other .states) _ there (λ t l. map-when (result view ranks) (view .related s t) (pairChecks view s t)))
+        ∙ join-cong (view .other .states) at there (λ t l. ap (λ (x : Bool). cond x (checksAt (stepsPart left) (stepsPart right) ours theirs c sizes s t) []) (related-are s t hs) ∙ ap (λ (x : List (Verdict Finding)). cond (view .related s t) x []) (pair-is s t hs (omega (arith, few .1, l))))
+        ∙ sym (map-join (checkVerdict view ranks) (view .other .states) _ ∙ join-cong (view .other .states) _ there (λ t l. map-when (checkVerdict view ranks) (view .related s t) (pairChecks view s t)))
       where
-        at : ℕ → List Result
+        at : ℕ → List (Verdict Finding)
         at t = cond (hasBit (getD ours s 0) t) (checksAt (stepsPart left) (stepsPart right) ours theirs c sizes s t) []
 
-        there : ℕ → List Result
-        there t = cond (view .related s t) (map (result view ranks) (pairChecks view s t)) []
+        there : ℕ → List (Verdict Finding)
+        there t = cond (view .related s t) (map (checkVerdict view ranks) (pairChecks view s t)) []
 
     -- of all
-    pub all-is : allChecks (stepsPart left) (stepsPart right) ours theirs c sizes ≡ map (result view ranks) (checks view)
+    pub all-is : allChecks (stepsPart left) (stepsPart right) ours theirs c sizes ≡ map (checkVerdict view ranks) (checks view)
     unfolding allChecks checks
     all-is =
         ap (λ (n : ℕ). joinBelow n (rowChecks (stepsPart left) (stepsPart right) ours theirs c sizes)) states-are
         ∙ join-cong (view .own .states) _ _ (λ s l. row-is s (omega (arith, few .0, l)))
-        ∙ sym (map-join (result view ranks) (view .own .states) _)
+        ∙ sym (map-join (checkVerdict view ranks) (view .own .states) _)
 
     -- the judge's answer after the starts
-    pub end-is : (pairs : ℕ) → endAnswer pairs (progress (allChecks (stepsPart left) (stepsPart right) ours theirs c sizes) none) ≡ verdictAnswer view ranks pairs (verdict view ranks (checks view))
-    end-is pairs = ap (λ (x : List Result). endAnswer pairs (progress x none)) all-is ∙ end-verdict view ranks pairs
+    pub end-is : (pairs : ℕ) → endAnswer pairs (progress (allChecks (stepsPart left) (stepsPart right) ours theirs c sizes) none)
+        ≡ answerOf (acceptance pairs) (along (λ k. tallied (checkVerdict view ranks k)) (checks view) none)
+    end-is pairs = ap (λ (x : List (Verdict Finding)). endAnswer pairs (progress x none)) all-is ∙ end-answer (checkVerdict view ranks) pairs (checks view) none
 
   -- the starts, and what follows them, from what was read
   module _ {z : Sizes} {rows′ : List ℕ} (ez : z ≡ sizesOf left right) (er : rows′ ≡ rowsPart c z) (s t : ℕ) (hs : s < statesOf left) where
@@ -204,8 +208,8 @@ module _ (left right c : List ℕ) {h k : Head} {y : Sizes} (gl : readTable left
     start-related = ap (λ (r : List ℕ). hasBit (rowOf r s) t) rows-are ∙ sym (ap (λ (b : Bool). b && hasBit (rowOf rows s) t) (lt-ltb s (statesOf left) hs))
 
     -- 16
-    pub starts-unrelated : hasBit (rowOf rows′ s) t ≡ false → startsAnswer s t ≡ judgedBytes left right c s t
-    unfolding judgedBytes judged
+    pub starts-unrelated : hasBit (rowOf rows′ s) t ≡ false → startsAnswer s t ≡ answerAfter left right c (judgedBytes left right c s t)
+    unfolding judgedBytes judged startsVerdict
     starts-unrelated e = sym (rw (sym start-related ∙ e))
 
     pairs-are : statesOf left ≤ 64 → sumBelow 64 (λ s. countBits (getD (rowWords rows (statesOf left)) s 0)) ≡ pairsIn rows (statesOf left)
@@ -215,8 +219,8 @@ module _ (left right c : List ℕ) {h k : Head} {y : Sizes} (gl : readTable left
     -- and the verdict
     pub starts-related : {words columns ls rs ll rl ours theirs : List ℕ} {pairs : ℕ} → words ≡ rowWords rows′ (z .n1) → columns ≡ columnWords words → ls ≡ stepsPart left → rs ≡ stepsPart right → ll ≡ labelsPart left → rl ≡ labelsPart right
         → PlanOf ll words ls ours → PlanOf rl columns rs theirs → pairs ≡ sumBelow 64 (λ s. countBits (getD words s 0)) → hasBit (rowOf rows′ s) t ≡ true
-        → endAnswer pairs (progress (allChecks ls rs ours theirs c z) none) ≡ judgedBytes left right c s t
-    unfolding judgedBytes judged sizesOf
+        → endAnswer pairs (progress (allChecks ls rs ours theirs c z) none) ≡ answerAfter left right c (judgedBytes left right c s t)
+    unfolding judgedBytes judged startsVerdict sizesOf
     starts-related {words} {columns} {ls} {rs} {ll} {rl} {ours} {theirs} {pairs} ew ec els ers ell erl po pt ep e =
         let n : z .n1 ≡ statesOf left = ap (λ (x : Sizes). x .n1) ez in
         let w : words ≡ rowWords rows (statesOf left) = ew ∙ ap₂ rowWords rows-are n in

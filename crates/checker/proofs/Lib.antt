@@ -1,8 +1,9 @@
 pub mod BuildLaws
 pub mod BytesLaws
-pub mod JoinLaws
 pub mod JudgeLaws
 pub mod PlanLaws
 pub mod ProgressLaws
 pub mod RowLaws
-pub mod VerdictLaws
+pub mod SideLaws
+pub mod TallyLaws
+pub mod JudgeCauseLaws

@@ -13,17 +13,19 @@ use borrow.Author.Tests.{eq-eqb, ne-eqb}
 use Rattle.lists.proofs.BoolLaws.{and-r, T-true, not-T-false}
 use Rattle.words.specs.Bits.{hasBit, firstBit, removeBit}
 use Rattle.words.proofs.BitLaws as bits
-use Rattle.tables.specs.declared.Answer.{Answer}
+use Rattle.answers.specs.declared.Answer.{Answer}
 use Rattle.certificates.specs.declared.Sizes.{Sizes}
 use Rattle.certificates.specs.Layout.{alAt, arAt, clAt, crAt}
 use Rattle.obligations.specs.CheckAnswers.{labelsAnswer}
-use Rattle.obligations.specs.Judging.{joinBelow, Result}
+use Rattle.lists.specs.Lists.{joinBelow}
+use Rattle.answers.specs.Verdicts.{Verdict, along}
+use Rattle.obligations.specs.Judging.{Finding}
 use Rattle.checker.specs.declared.Tally.{Tally}
 use Rattle.checker.specs.declared.Progress.the-variants.{On, Stop}
 use Rattle.checker.specs.declared.Place.{Place}
 use Rattle.checker.specs.Progress.{total, progress}
 use Rattle.checker.specs.Plan.{stepsIn, Small, Within, leftRun, rightRun, leftChecks, rightChecks, checksAt, rowChecks, allChecks}
-use Rattle.checker.proofs.JoinLaws.{joinFrom, from-cong, from-start, from-skip, from-next, from-none, join-none, join-length}
+use Rattle.lists.proofs.JoinLaws.{joinFrom, from-cong, from-start, from-skip, from-next, from-none, join-none, join-length}
 use Rattle.checker.proofs.ProgressLaws.{progress-on, progress-stop, progress-total}
 use Rattle.checker.proofs.PlanLaws.{step-checks-few}
 
@@ -54,12 +56,12 @@ module _ (left right ours theirs certificate : List ℕ) (z : Sizes) where
   module _ (s t : ℕ) (y : Tally) where
     pub labels-differ : (getD ours (192 + s) 0 ≡ getD theirs (192 + t) 0 → ⊥)
         → progress (checksAt left right ours theirs certificate z s t) y ≡ Stop (labelsAnswer s t)
-    unfolding checksAt progress
+    unfolding checksAt progress along
     labels-differ h = rw (ne-eqb _ _ h)
 
     module _ (e : getD ours (192 + s) 0 ≡ getD theirs (192 + t) 0) where
       labels-pass : progress (checksAt left right ours theirs certificate z s t) y ≡ progress (leftChecks left right ours theirs certificate z s t ++ rightChecks left right ours theirs certificate z s t) y
-      unfolding checksAt progress
+      unfolding checksAt progress along
       labels-pass = rw (eq-eqb _ _ e)
 
       pub left-stops : (a : Answer) → progress (leftChecks left right ours theirs certificate z s t) y ≡ Stop a
@@ -87,14 +89,14 @@ module _ (left right ours theirs certificate : List ℕ) (z : Sizes) where
     unfolding rowChecks
     row-few s = omega (arith, join-length 64 513 (λ t. cond (hasBit (getD ours s 0) t) (checksAt left right ours theirs certificate z s t) []) (λ t l. when (hasBit (getD ours s 0) t) _ (pair-few s t)))
       where
-        when : (b : Bool) (x : List Result) → length x ≤ 513 → length (cond b x []) ≤ 513
+        when : (b : Bool) (x : List (Verdict Finding)) → length x ≤ 513 → length (cond b x []) ≤ 513
         when true x h = h
         when false x h = omega arith
 
   -- ---- a left state: the related states in the word that are left
 
   module _ (s : ℕ) where
-    abbrev wordChecks : ℕ → ℕ → List Result
+    abbrev wordChecks : ℕ → ℕ → List (Verdict Finding)
     wordChecks word t = cond (hasBit word t) (checksAt left right ours theirs certificate z s t) []
 
     pub record InRow (start y : Tally) (word t : ℕ) : Type 0 where
@@ -114,8 +116,8 @@ module _ (left right ours theirs certificate : List ℕ) (z : Sizes) where
           let e = w .first in
           from-start 64 (wordChecks word)
           ∙ from-next 0 t 64 (wordChecks word) (omega arith) h (λ i _ l. rw (not-T-false (hasBit word i) (bits.first-least word i (rw (← e) l))))
-          ∙ ap (λ (x : List Result). x ++ joinFrom (suc t) 64 (wordChecks word)) there
-          ∙ ap (λ (x : List Result). checksAt left right ours theirs certificate z s t ++ x)
+          ∙ ap (λ (x : List (Verdict Finding)). x ++ joinFrom (suc t) 64 (wordChecks word)) there
+          ∙ ap (λ (x : List (Verdict Finding)). checksAt left right ours theirs certificate z s t ++ x)
           (from-cong (suc t) 64 (wordChecks word) (wordChecks (removeBit word t)) (λ i b l. ap (λ (x : Bool). cond x (checksAt left right ours theirs certificate z s i) []) (stays i b))
           ∙ sym (from-skip (suc t) 64 (wordChecks (removeBit word t)) (λ i l. rw (gone i l))))
         where
@@ -153,7 +155,7 @@ module _ (left right ours theirs certificate : List ℕ) (z : Sizes) where
 
       pub pair-stops : (a : Answer) → t < 64 → progress (checksAt left right ours theirs certificate z s t) y ≡ Stop a
           → progress (rowChecks left right ours theirs certificate z s) start ≡ Stop a
-      pair-stops a h q = w .left-over ∙ ap (λ (x : List Result). progress x y) (taken h) ∙ progress-stop _ _ y a q
+      pair-stops a h q = w .left-over ∙ ap (λ (x : List (Verdict Finding)). progress x y) (taken h) ∙ progress-stop _ _ y a q
 
       pub pair-passes : (x : Tally) {word′ t′ : ℕ} → stepsIn left ≤ 256 → stepsIn right ≤ 256 → t < 64 → progress (checksAt left right ours theirs certificate z s t) y ≡ On x
           → word′ ≡ removeBit word t → t′ ≡ firstBit word′ → InRow start x word′ t′
@@ -166,13 +168,13 @@ module _ (left right ours theirs certificate : List ℕ) (z : Sizes) where
           record {
             first = e;
             word< = rw d (bits.remove-word word t (w .word<));
-            left-over = w .left-over ∙ ap (λ (x : List Result). progress x y) (taken h) ∙ progress-on _ _ y x q ∙ ap (λ (v : ℕ). progress (joinBelow 64 (wordChecks v)) x) (sym d);
+            left-over = w .left-over ∙ ap (λ (x : List (Verdict Finding)). progress x y) (taken h) ∙ progress-on _ _ y x q ∙ ap (λ (v : ℕ). progress (joinBelow 64 (wordChecks v)) x) (sym d);
             counted = omega arith;
           }
 
       pub row-end : 64 ≤ t → progress (rowChecks left right ours theirs certificate z s) start ≡ On y
-      unfolding progress
-      row-end h = w .left-over ∙ ap (λ (x : List Result). progress x y) (join-none 64 (wordChecks word) (λ i l. rw (not-T-false (hasBit word i) (bits.first-least word i (rw (← (w .first)) (omega arith))))))
+      unfolding progress along
+      row-end h = w .left-over ∙ ap (λ (x : List (Verdict Finding)). progress x y) (join-none 64 (wordChecks word) (λ i l. rw (not-T-false (hasBit word i) (bits.first-least word i (rw (← (w .first)) (omega arith))))))
 
   -- ---- all left states
 
@@ -183,7 +185,7 @@ module _ (left right ours theirs certificate : List ℕ) (z : Sizes) where
 
   pub rows-start : (start : Tally) → InRows start start 0
   unfolding allChecks
-  rows-start start = record { below = omega arith; left-over = ap (λ (x : List Result). progress x start) (from-start (z .n1) (rowChecks left right ours theirs certificate z)); counted = omega arith }
+  rows-start start = record { below = omega arith; left-over = ap (λ (x : List (Verdict Finding)). progress x start) (from-start (z .n1) (rowChecks left right ours theirs certificate z)); counted = omega arith }
 
   module _ (start y : Tally) (s : ℕ) (w : InRows start y s) where
     row-next : s < z .n1 → joinFrom s (z .n1) (rowChecks left right ours theirs certificate z) ≡ rowChecks left right ours theirs certificate z s ++ joinFrom (suc s) (z .n1) (rowChecks left right ours theirs certificate z)
@@ -191,7 +193,7 @@ module _ (left right ours theirs certificate : List ℕ) (z : Sizes) where
 
     pub row-stops : (a : Answer) → s < z .n1 → progress (rowChecks left right ours theirs certificate z s) y ≡ Stop a
         → progress (allChecks left right ours theirs certificate z) start ≡ Stop a
-    row-stops a h q = w .left-over ∙ ap (λ (x : List Result). progress x y) (row-next h) ∙ progress-stop _ _ y a q
+    row-stops a h q = w .left-over ∙ ap (λ (x : List (Verdict Finding)). progress x y) (row-next h) ∙ progress-stop _ _ y a q
 
     pub row-passes : (x : Tally) → stepsIn left ≤ 256 → stepsIn right ≤ 256 → s < z .n1 → progress (rowChecks left right ours theirs certificate z s) y ≡ On x → InRows start x (s + 1)
     row-passes x f g h q =
@@ -200,10 +202,10 @@ module _ (left right ours theirs certificate : List ℕ) (z : Sizes) where
         let k = w .counted in
         record {
           below = omega arith;
-          left-over = rw add-one (w .left-over ∙ ap (λ (x : List Result). progress x y) (row-next h) ∙ progress-on _ _ y x q);
+          left-over = rw add-one (w .left-over ∙ ap (λ (x : List (Verdict Finding)). progress x y) (row-next h) ∙ progress-on _ _ y x q);
           counted = omega arith;
         }
 
     pub rows-end : z .n1 ≤ s → progress (allChecks left right ours theirs certificate z) start ≡ On y
-    unfolding progress
-    rows-end h = w .left-over ∙ ap (λ (x : List Result). progress x y) (from-none s (z .n1) _ (λ i b l. absurd (omega arith)))
+    unfolding progress along
+    rows-end h = w .left-over ∙ ap (λ (x : List (Verdict Finding)). progress x y) (from-none s (z .n1) _ (λ i b l. absurd (omega arith)))

@@ -1,3 +1,4 @@
 pub mod Progress
 pub mod Plan
 pub mod Judge
+pub mod JudgeCauses

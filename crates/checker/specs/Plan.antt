@@ -1,4 +1,4 @@
--- What the judge works out once a call, as 512 words for each side, and the results of the checks read off these words.
+-- What the judge works out once a call, as 512 words for each side, and the verdicts on the checks read off these words.
 -- A plan has, for each own state s: at s the states related to it, at 64 + s the states that its steps enter, at 128 + s the first step from it,
 -- at 192 + s its label; and for each own step j, at 256 + j the next step from the same state. Where there is no such step stands 256.
 use Prim.Native.Nat.{ℕ, _+_, _*_, _/_, _^_, _≤_, _<_}
@@ -8,18 +8,20 @@ use mathlib.Core.List.{List, [], _∷_, _++_}
 use lib.Dec.{leb, eqb}
 use lib.ListN.{length, getD, drop}
 use Rattle.lists.specs.Below.{anyBelow}
+use Rattle.lists.specs.Lists.{joinBelow}
 use Rattle.lists.specs.Numbers.{byteAt}
 use Rattle.words.specs.Bits.{hasBit}
 use Rattle.tables.specs.Table.{labelOf, fromOf, toOf}
-use Rattle.tables.specs.declared.Answer.{Answer}
+use Rattle.answers.specs.Verdicts.{Verdict, goOn, refusedWith}
+use Rattle.answers.specs.declared.Answer.{Answer}
 use Rattle.certificates.specs.Layout.{alAt, arAt, clAt, crAt}
 use Rattle.certificates.specs.declared.Sizes.{Sizes}
 use Rattle.obligations.specs.declared.Facing.{Facing}
 use Rattle.obligations.specs.declared.Outcome.{Outcome}
-use Rattle.obligations.specs.declared.Cause.{Cause}
-use Rattle.obligations.specs.Obligation.{causeNumber, obligationOf}
+use Rattle.obligations.specs.declared.Failure.{Failure}
+use Rattle.obligations.specs.Obligation.{failureNumber, obligationOf}
 use Rattle.obligations.specs.CheckAnswers.{labelsAnswer, stepAnswer}
-use Rattle.obligations.specs.Judging.{joinBelow, Result, passes, stops, stepResult}
+use Rattle.obligations.specs.Judging.{Finding, nothing, stepVerdict}
 use Rattle.checker.specs.declared.Run.{Run}
 use Rattle.checker.specs.declared.Place.{Place}
 
@@ -104,8 +106,8 @@ pub record Within (run : Run) (place : Place) : Type 0 where
   pub other< : place .other < 64
 
 -- The answer where the obligation of own step j fails at the place.
-abbrev pub failedAt : Place → ℕ → Cause → Answer
-failedAt place j cause = stepAnswer (causeNumber cause) (place .side) (leftState place) (rightState place) j
+abbrev pub failedAt : Place → ℕ → Failure → Answer
+failedAt place j failure = stepAnswer (failureNumber failure) (place .side) (leftState place) (rightState place) j
 
 -- The A rank of the own state s at the place's other state.
 unfoldable pub rankAt : List ℕ → Run → Place → ℕ → ℕ
@@ -128,27 +130,27 @@ module _ (steps plan : List ℕ) (ahead : ℕ) (certificate : List ℕ) (run : R
       obligationOf (facing j) (place .other) (rankAt certificate run place (place .own)) (rankAt certificate run place (toOf steps j))
       (drop (run .matches + j * run .states) certificate)
 
-  -- The results of the own steps from the place's own state.
-  unfoldable pub stepChecks : List Result
-  stepChecks = joinBelow (stepsIn steps) (λ j. cond (eqb (fromOf steps j) (place .own)) (stepResult (place .side) (leftState place) (rightState place) j (outcomeAt j) ∷ []) [])
+  -- The verdicts on the own steps from the place's own state.
+  unfoldable pub stepChecks : List (Verdict Finding)
+  stepChecks = joinBelow (stepsIn steps) (λ j. cond (eqb (fromOf steps j) (place .own)) (stepVerdict (place .side) (leftState place) (rightState place) j (outcomeAt j) ∷ []) [])
 
 module _ (left right ours theirs certificate : List ℕ) (z : Sizes) where
-  -- The result of the labels of a pair.
-  abbrev pub labelCheck : ℕ → ℕ → Result
-  labelCheck s t = cond (eqb (getD ours (192 + s) 0) (getD theirs (192 + t) 0)) passes (stops (labelsAnswer s t))
+  -- The verdict on the labels of a pair.
+  abbrev pub labelCheck : ℕ → ℕ → Verdict Finding
+  labelCheck s t = cond (eqb (getD ours (192 + s) 0) (getD theirs (192 + t) 0)) (goOn nothing) (refusedWith (labelsAnswer s t))
 
-  unfoldable pub leftChecks : ℕ → ℕ → List Result
+  unfoldable pub leftChecks : ℕ → ℕ → List (Verdict Finding)
   leftChecks s t = stepChecks left ours (getD theirs (64 + t) 0) certificate (leftRun z) (record { side = 0; own = s; other = t })
 
-  unfoldable pub rightChecks : ℕ → ℕ → List Result
+  unfoldable pub rightChecks : ℕ → ℕ → List (Verdict Finding)
   rightChecks s t = stepChecks right theirs (getD ours (64 + s) 0) certificate (rightRun z) (record { side = 1; own = t; other = s })
 
-  -- The results of a pair, of a left state, and of all.
-  unfoldable pub checksAt : ℕ → ℕ → List Result
+  -- The verdicts on a pair, on a left state's pairs, and on all.
+  unfoldable pub checksAt : ℕ → ℕ → List (Verdict Finding)
   checksAt s t = labelCheck s t ∷ leftChecks s t ++ rightChecks s t
 
-  unfoldable pub rowChecks : ℕ → List Result
+  unfoldable pub rowChecks : ℕ → List (Verdict Finding)
   rowChecks s = joinBelow 64 (λ t. cond (hasBit (getD ours s 0) t) (checksAt s t) [])
 
-  unfoldable pub allChecks : List Result
+  unfoldable pub allChecks : List (Verdict Finding)
   allChecks = joinBelow (z .n1) rowChecks

@@ -1,39 +1,55 @@
--- How the judge goes on: over the results of the checks in their order it counts the obligations that each clause meets, up to the first check that stops it.
+-- How the judge goes on: over the verdicts on the checks in their order it counts the obligations that each clause meets, up to the first that refuses.
 use Prim.Native.Nat.{ℕ, _+_}
-use mathlib.Core.List.{List, [], _∷_}
-use Rattle.obligations.specs.Judging.{Result, passes, metBy, stops}
+use mathlib.Core.List.{List}
+use Rattle.answers.specs.Verdicts.{Verdict, goOn, refusedWith, _andThen_, along}
+use Rattle.answers.specs.declared.Answer.{Answer}
+use Rattle.obligations.specs.Judging.{Finding, nothing, metBy}
 use Rattle.obligations.specs.declared.Clause.{Clause}
-use Rattle.obligations.specs.declared.Clause.the-variants.{Answer as Answered, Stutter as Stuttered, Match as Matched}
-use Rattle.tables.specs.declared.Answer.{Answer}
+use Rattle.obligations.specs.declared.Clause.the-variants.{Step, Stutter, Match}
 use Rattle.checker.specs.declared.Tally.{Tally}
 use Rattle.checker.specs.declared.Progress.{Progress}
 use Rattle.checker.specs.declared.Progress.the-variants.{On, Stop}
 
 -- Nothing is counted yet.
 abbrev pub none : Tally
-none = record { answers = 0; stutters = 0; matches = 0 }
+none = record { steps = 0; stutters = 0; matches = 0 }
+
+-- How many obligations were counted for a clause, and for all three.
+abbrev pub countOf : Clause → Tally → ℕ
+countOf Step y = y .steps
+countOf Stutter y = y .stutters
+countOf Match y = y .matches
+
+abbrev pub total : Tally → ℕ
+total y = y .steps + y .stutters + y .matches
 
 -- One obligation more, met by the clause.
 abbrev pub addTo : Tally → Clause → Tally
-addTo y Answered = record { answers = y .answers + 1; stutters = y .stutters; matches = y .matches }
-addTo y Stuttered = record { answers = y .answers; stutters = y .stutters + 1; matches = y .matches }
-addTo y Matched = record { answers = y .answers; stutters = y .stutters; matches = y .matches + 1 }
+addTo y Step = record { steps = y .steps + 1; stutters = y .stutters; matches = y .matches }
+addTo y Stutter = record { steps = y .steps; stutters = y .stutters + 1; matches = y .matches }
+addTo y Match = record { steps = y .steps; stutters = y .stutters; matches = y .matches + 1 }
 
--- How many obligations were counted.
-abbrev pub total : Tally → ℕ
-total y = y .answers + y .stutters + y .matches
+-- What a check has found is counted.
+abbrev pub counted : Tally → Finding → Tally
+counted y nothing = y
+counted y (metBy clause) = addTo y clause
 
--- What one result leads to; `on` is how the rest goes on from a tally.
-abbrev pub after : Result → Tally → (Tally → Progress) → Progress
-after passes y on = on y
-after (metBy clause) y on = on (addTo y clause)
-after (stops answer) y on = Stop answer
+abbrev pub tallied : Verdict Finding → Tally → Verdict Tally
+tallied verdict y = verdict andThen λ found. goOn (counted y found)
 
-unfoldable pub progress : List Result → Tally → Progress
-progress [] y = On y
-progress (x ∷ xs) y = after x y (progress xs)
+-- The code's enum for it.
+abbrev pub asProgress : Verdict Tally → Progress
+asProgress (goOn y) = On y
+asProgress (refusedWith answer) = Stop answer
+
+unfoldable pub progress : List (Verdict Finding) → Tally → Progress
+progress verdicts y = asProgress (along tallied verdicts y)
+
+-- The answer of an acceptance: the related pairs, and the obligations met by 2a, 2b and 2c.
+abbrev pub acceptance : ℕ → Tally → Answer
+acceptance pairs y = record { code = 0; file = 0; a = pairs; b = y .steps; c = y .stutters; d = y .matches }
 
 -- The answer at the end of all checks.
 abbrev pub endAnswer : ℕ → Progress → Answer
-endAnswer pairs (On y) = record { code = 0; file = 0; a = pairs; b = y .answers; c = y .stutters; d = y .matches }
+endAnswer pairs (On y) = acceptance pairs y
 endAnswer pairs (Stop answer) = answer

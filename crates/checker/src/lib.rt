@@ -1,5 +1,6 @@
 // The judge: six numbers for any three byte strings. What it looks at is worked out once a call, as words, so that an obligation costs a few
 // instructions and no list of steps is searched for one.
+use answers::Answer;
 use certificate_reader::CertificateRead;
 use certificate_reader::read_certificate;
 use certificates::Sizes;
@@ -7,9 +8,9 @@ use certificates::row;
 use certificates::rows;
 use lists::byte;
 use lists::part_of;
-use obligations::Cause;
 use obligations::Clause;
 use obligations::Facing;
+use obligations::Failure;
 use obligations::Outcome;
 use obligations::obligation;
 use relations::column_words;
@@ -17,7 +18,6 @@ use relations::row_words;
 use table_reader::TableRead;
 use table_reader::read_table;
 use table_reader::table_answer;
-use tables::Answer;
 use tables::from;
 use tables::label;
 use tables::labels;
@@ -33,14 +33,15 @@ ghost use Rattle.words.specs.Bits.{countBits};
 ghost use Rattle.certificates.specs.declared.Sizes.{Sizes};
 ghost use Rattle.checker.specs.Progress.{none, addTo, total, progress, endAnswer};
 ghost use Rattle.checker.specs.Plan.{stepsIn, StatesPlanned, StepsPlanned, StepsFit, PlanOf, Links, Small, Within, leftRun, rightRun, failedAt, rankAt, outcomeAt, stepChecks, checksAt, rowChecks, allChecks};
-ghost use Rattle.checker.specs.Judge.{certificateThen, AllRead, judgedBytes, judgeAnswer};
-ghost use Rattle.tables.specs.Answers.{blank};
+ghost use Rattle.answers.specs.Verdicts.{refusalOf};
+ghost use Rattle.certificate_reader.specs.CertificateAnswers.{certificateVerdict};
+ghost use Rattle.checker.specs.Judge.{AllRead, judgedBytes, answerAfter, judgeAnswer};
 
 // How many obligations each clause has met.
-struct Tally {
-    answers: usize,
-    stutters: usize,
-    matches: usize,
+pub struct Tally {
+    pub steps: usize,
+    pub stutters: usize,
+    pub matches: usize,
 }
 
 // Whether the judge goes on, with the obligations counted so far, or stops with an answer.
@@ -69,18 +70,18 @@ impl Tally {
         ensures { λ r. ⌜ r ≡ addTo self clause ⌝ }
     {
         match clause {
-            Clause::Answer => Tally {
-                answers: self.answers + 1,
+            Clause::Step => Tally {
+                steps: self.steps + 1,
                 stutters: self.stutters,
                 matches: self.matches,
             },
             Clause::Stutter => Tally {
-                answers: self.answers,
+                steps: self.steps,
                 stutters: self.stutters + 1,
                 matches: self.matches,
             },
             Clause::Match => Tally {
-                answers: self.answers,
+                steps: self.steps,
                 stutters: self.stutters,
                 matches: self.matches + 1,
             },
@@ -113,10 +114,10 @@ impl Run {
 }
 
 // The answer where the obligation of own step j fails at the place.
-fn failed(place: Place, j: usize, cause: Cause) -> Answer
-    ensures { λ r. ⌜ r ≡ failedAt place j cause ⌝ }
+fn failed(place: Place, j: usize, failure: Failure) -> Answer
+    ensures { λ r. ⌜ r ≡ failedAt place j failure ⌝ }
 {
-    let code = cause.number();
+    let code = failure.number();
     if place.side == 0 {
         return Answer {
             code,
@@ -177,7 +178,7 @@ fn outcome_at(
     // Most obligations are met by 2a, which looks at no rank.
     let met = ahead.intersect(target);
     if met.first() < 64 {
-        return Outcome::Met(Clause::Answer);
+        return Outcome::Met(Clause::Step);
     }
     let facing = Facing {
         from: Row(plan[s]),
@@ -214,8 +215,8 @@ fn sweep(
             Outcome::Met(clause) => {
                 met = met.add(clause);
             }
-            Outcome::Failed(cause) => {
-                return Progress::Stop(failed(place, j, cause));
+            Outcome::Failed(failure) => {
+                return Progress::Stop(failed(place, j, failure));
             }
         }
         j = plan[256 + j] as usize;
@@ -324,7 +325,7 @@ fn check_all(
 {
     let n = sizes.n1 as usize;
     let mut met = Tally {
-        answers: 0,
+        steps: 0,
         stutters: 0,
         matches: 0,
     };
@@ -409,7 +410,7 @@ fn end_answer(end: Progress, pairs: usize) -> Answer
             code: 0,
             file: 0,
             a: pairs,
-            b: met.answers,
+            b: met.steps,
             c: met.stutters,
             d: met.matches,
         },
@@ -420,7 +421,7 @@ fn end_answer(end: Progress, pairs: usize) -> Answer
 // The judge's answer where all three files are read: s and t are the starts.
 fn judge_read(left: &[u8], right: &[u8], certificate: &[u8], s: usize, t: usize) -> Answer
     requires { ⌜ AllRead (now left) (now right) (now certificate) × (s < statesOf (now left)) ⌝ }
-    ensures { λ r. ⌜ r ≡ judgedBytes (now (left .entry)) (now (right .entry)) (now (certificate .entry)) s t ⌝ }
+    ensures { λ r. ⌜ r ≡ answerAfter (now (left .entry)) (now (right .entry)) (now (certificate .entry)) (judgedBytes (now (left .entry)) (now (right .entry)) (now (certificate .entry)) s t) ⌝ }
 {
     let sizes = Sizes::of(left, right);
     let rows = rows(certificate, sizes);
@@ -448,7 +449,7 @@ fn judge_read(left: &[u8], right: &[u8], certificate: &[u8], s: usize, t: usize)
 
 // The answer of a certificate's read that is refused; for any other it is blank.
 fn certificate_answer(read: CertificateRead) -> Answer
-    ensures { λ r. ⌜ r ≡ certificateThen read blank ⌝ }
+    ensures { λ r. ⌜ r ≡ refusalOf (certificateVerdict 2 read) ⌝ }
 {
     let CertificateRead::Refused(refusal) = read else {
         return Answer {

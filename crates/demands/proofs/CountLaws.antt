@@ -11,10 +11,11 @@ use lib.Dec.{eqb, ltb}
 use lib.ListN.{length, length-append}
 use borrow.Author.Tests.{lt-ltb, le-ltb, eq-eqb, ne-eqb}
 use Rattle.lists.specs.Below.{sumBelow, countBelow}
+use Rattle.lists.specs.Lists.{joinBelow}
 use Rattle.lists.proofs.BelowLaws.{sum-cong, sum-le, sum-more}
 use Rattle.bisimulation.specs.Systems.{System, View}
-use Rattle.obligations.specs.Judging.{joinBelow, stepsFrom, Check, leftStep, rightStep, pairChecks, checks, countObligations}
-use Rattle.demands.specs.Judged.{degree, obligationsOf}
+use Rattle.obligations.specs.Judging.{stepsFrom, Check, leftStep, rightStep, pairChecks, checks, countObligations}
+use Rattle.demands.specs.Demand1.{degree, obligationsOf}
 
 -- ---- the obligations of the list of checks
 

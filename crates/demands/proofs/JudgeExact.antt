@@ -1,118 +1,89 @@
 -- Demand 2 on bytes: `judge-exact` says which certificates the judge accepts, with which counts, and how their ranks and the paper's meet. The key is that
--- the verdict over the checks in judging order, with the starts before it, is the theory's judge on the systems, relation and ranks that the bytes give;
--- what the theory says of its judge is then said of the bytes. Assumes nothing.
-use Prim.Native.Nat.{ℕ, _+_, _*_, _≤_}
-use mathlib.Core.Path.{_≡_, refl, sym, ap, _∙_, subst}
+-- no cause applies exactly where the files are well formed and document 01's clauses hold of the systems, relation and ranks that the bytes give; what the
+-- theory says of these clauses is then said of the bytes. Assumes nothing.
+use Prim.Native.Nat.{ℕ, _<_}
+use mathlib.Core.Path.{_≡_}
 use mathlib.Core.Logic.{_↔_}
 use mathlib.Core.List.{List}
-use native.Mathlib.Omega.{arith}
 use lib.Dec.{T}
-use Rattle.lists.specs.Below.{sumBelow}
-use Rattle.lists.proofs.BoolLaws.{and-l, and-r, and-i}
-use Rattle.words.specs.Bits.{countBits}
-use Rattle.bisimulation.specs.Systems.{WellFormed, NoTwice, flip, swap, InitialRelated}
-use Rattle.bisimulation.specs.Judge.{initialRelated, labelsEqual, obligationsMet, accepts}
-use Rattle.bisimulation.proofs.ClauseLaws.{flip-formed, initial-e, initial-i, accepts-iff}
+use Rattle.bisimulation.specs.Systems.{WellFormed, NoTwice, flip, InitialRelated}
+use Rattle.bisimulation.specs.Clauses.{Meets, Certified}
+use Rattle.bisimulation.specs.Judge.{accepts}
+use Rattle.bisimulation.specs.Namjoshi.{BisimulationWithoutConjunct, InitialStatesRelated}
+use Rattle.bisimulation.specs.Triples.{tripleRank}
+use Rattle.bisimulation.proofs.ClauseLaws.{accepts-iff}
 use Rattle.bisimulation.proofs.Equivalences.{one-initial}
-use Rattle.bisimulation.proofs.NamjoshiTheorems.{bisimulation-accepted, accepted-bisimulation}
-use Rattle.tables.specs.Table.{statesOf, stepsOf, startOf}
-use Rattle.tables.specs.Model.{systemOf}
-use Rattle.tables.specs.declared.Answer.{Answer}
-use Rattle.table_reader.proofs.ConditionLaws.{none-good}
+use Rattle.bisimulation.proofs.NamjoshiTheorems.{bisimulation-accepted, accepted-bisimulation, certified-iff-triples}
+use Rattle.answers.specs.Causes.{NoCause}
+use Rattle.answers.proofs.CauseLaws.{none-append, append-none}
+use Rattle.answers.proofs.DecideLaws.{decides-stable, test-decides}
+use Rattle.tables.specs.Table.{startOf}
+use Rattle.table_reader.specs.TableCauses.{tableCauses}
+use Rattle.table_reader.proofs.TableCauseLaws.{formed-good, good-formed, good-none, none-good}
 use Rattle.table_reader.proofs.TableLaws.{table-formed}
-use Rattle.certificates.specs.Layout.{sizesOf, rowsPart, rowOf}
-use Rattle.certificates.specs.CertificateModel.{AreBytes, viewOf}
-use Rattle.certificate_reader.proofs.CertificateConditionLaws.{certificate-none-good}
+use Rattle.certificates.specs.Layout.{sizesOf, rowsPart}
+use Rattle.certificates.specs.CertificateModel.{AreBytes, viewOf, certifiedView as view, certifiedRanks as ranks}
 use Rattle.certificates.proofs.ModelLaws.{view-plain}
-use Rattle.obligations.specs.Judging.{checks, accepted, verdict}
-use Rattle.obligations.proofs.JudgingLaws.{verdict-iff, verdict-e, counts-sum}
-use Rattle.checker.specs.Judge.{pairsIn, verdictAnswer, judgeAnswer}
+use Rattle.certificate_reader.specs.CertificateCauses.{certificateCauses}
+use Rattle.certificate_reader.proofs.CertificateCauseLaws.{certificate-none-good}
+use Rattle.obligations.proofs.JudgingLaws.{none-iff}
+use Rattle.checker.specs.Judge.{judgeAnswer}
+use Rattle.checker.specs.JudgeCauses.{judgeCauses}
 use Rattle.checker.proofs.BytesLaws.{formed}
-use Rattle.demands.specs.Judged.{view, ranks, AllWellFormed, StartsRelated, obligationsOf, Accepted}
-use Rattle.demands.specs.Demand2.{JudgeExact}
-use Rattle.demands.proofs.CheckLaws.{counts-answer, counts-stutter, counts-match}
-use Rattle.demands.proofs.CountLaws.{count-checks, obligations-most}
-use Rattle.demands.proofs.JudgeConditions.{verdict-is, accepted-case}
+use Rattle.checker.proofs.JudgeCauseLaws.{afterCertificate, afterRight, afterLeft}
+use Rattle.demands.specs.Demand2.{AllWellFormed, JudgeExact}
+use Rattle.demands.proofs.JudgeAnswers.{zero-accepted, accepted-zero}
 
 module _ (left right c : List ℕ) (bytes : AreBytes c) where
   -- ---- what well-formed files give the theory
 
   module _ (w : AllWellFormed left right c) where
     pub formed-view : WellFormed (view left right c)
-    formed-view = formed left right c (none-good left (w .left-formed)) (none-good right (w .right-formed)) (certificate-none-good (sizesOf left right) c (w .certificate-formed)) bytes
+    formed-view = formed left right c (formed-good left (w .left-formed)) (formed-good right (w .right-formed)) (certificate-none-good 2 (sizesOf left right) c (w .certificate-formed)) bytes
 
     -- one start each: they are related
-    starts-iff : (InitialRelated (view left right c) × InitialRelated (flip (view left right c))) ↔ StartsRelated left right c
+    starts-iff : (InitialRelated (view left right c) × InitialRelated (flip (view left right c))) ↔ T (view left right c .related (startOf left) (startOf right))
     unfolding viewOf
     starts-iff =
         one-initial (view left right c) (startOf left) (startOf right)
-        (table-formed left (none-good left (w .left-formed)) .one-initial) (table-formed right (none-good right (w .right-formed)) .one-initial)
+        (table-formed left (formed-good left (w .left-formed)) .one-initial) (table-formed right (formed-good right (w .right-formed)) .one-initial)
 
     no-twice : NoTwice (view left right c .own) × NoTwice (view left right c .other)
     unfolding viewOf
-    no-twice = (table-formed left (none-good left (w .left-formed)) .no-twice, table-formed right (none-good right (w .right-formed)) .no-twice)
+    no-twice = (table-formed left (formed-good left (w .left-formed)) .no-twice, table-formed right (formed-good right (w .right-formed)) .no-twice)
 
-    -- the starts and the verdict are the theory's judge
-    pub accepts-is : T (accepts (view left right c) (ranks left right c)) ↔ (StartsRelated left right c × (verdict (view left right c) (ranks left right c) (checks (view left right c)) ≡ accepted))
-    unfolding accepts
-    accepts-is =
-        let v = view left right c in
-        let r = ranks left right c in
-        let f = formed-view in (
-          λ h. (
-            starts-iff .0 (initial-e v f (search (and-l, and-r)), initial-e (flip v) (flip-formed v f) (search (and-l, and-r))),
-            verdict-iff v f r .1 (search (and-l, and-r), search (and-l, and-r), search (and-l, and-r)),
-          ),
-          λ p.
-              let i = starts-iff .1 (p .0) in
-              let a : T (initialRelated v) = initial-i v f (i .0) in
-              let b : T (initialRelated (flip v)) = initial-i (flip v) (flip-formed v f) (i .1) in
-              let q = verdict-iff v f r .0 (p .1) in
-              let l : T (labelsEqual v) = q .0 in
-              let m : T (obligationsMet v r) = q .1 in
-              let n : T (obligationsMet (flip v) (swap r)) = q .2 in
-              search and-i,
-        )
+    -- document 01's clauses are the paper's without the conjunct of 2c, with the rank of triples
+    triples-are : Certified Meets (view left right c) (ranks left right c)
+        ↔ (InitialStatesRelated (view left right c) × BisimulationWithoutConjunct (view left right c) _<_ (tripleRank (view left right c) (ranks left right c)))
+    triples-are = certified-iff-triples (view left right c) formed-view (view-plain left right (rowsPart c (sizesOf left right))) (no-twice .0) (no-twice .1) (ranks left right c)
 
-    -- the judge accepts where the theory's does
-    pub accepts-code : T (accepts (view left right c) (ranks left right c)) → judgeAnswer left right c .code ≡ 0
-    accepts-code h =
-        let p = accepts-is .0 h in
-        ap (λ (a : Answer). a .code) (verdict-is left right c w (p .0) ∙ ap (verdictAnswer (view left right c) (ranks left right c) (pairsIn (rowsPart c (sizesOf left right)) (statesOf left))) (p .1))
+  -- ---- where no cause applies
 
-  -- and only there
+  none-certified : NoCause (judgeCauses left right c) → AllWellFormed left right c × Certified Meets (view left right c) (ranks left right c)
+  none-certified n =
+      let l = append-none (tableCauses 0 left) (afterLeft left right c) n in
+      let r = append-none (tableCauses 1 right) (afterRight left right c) (l .1) in
+      let d = append-none (certificateCauses 2 (sizesOf left right) c) (afterCertificate left right c) (r .1) in
+      let w : AllWellFormed left right c = record { left-formed = l .0; right-formed = good-formed right (none-good 1 right (r .0)); certificate-formed = d .0 } in
+      let i = starts-iff w .1 (decides-stable (test-decides (view left right c .related (startOf left) (startOf right))) (d .1 .0)) in
+      let m = none-iff (view left right c) (formed-view w) (ranks left right c) .0 (d .1 .1) in
+      (w, record { initial = i .0; initial′ = i .1; labels = m .0; own-met = m .1; other-met = m .2 })
+
+  certified-none : AllWellFormed left right c → Certified Meets (view left right c) (ranks left right c) → NoCause (judgeCauses left right c)
+  certified-none w m =
+      none-append (tableCauses 0 left) (afterLeft left right c) (w .left-formed)
+      (none-append (tableCauses 1 right) (afterRight left right c) (good-none 1 right (formed-good right (w .right-formed)) .1)
+      (none-append (certificateCauses 2 (sizesOf left right) c) (afterCertificate left right c) (w .certificate-formed)
+      (λ n. n (starts-iff w .0 (m .initial, m .initial′)), none-iff (view left right c) (formed-view w) (ranks left right c) .1 (m .labels, m .own-met, m .other-met))))
+
+  -- the judge accepts where the theory's does, and only there
+  pub accepts-code : AllWellFormed left right c → T (accepts (view left right c) (ranks left right c)) → judgeAnswer left right c .code ≡ 0
+  accepts-code w h = accepted-zero left right c (certified-none w (accepts-iff (view left right c) (formed-view w) (ranks left right c) .0 h))
+
   pub code-accepts : judgeAnswer left right c .code ≡ 0 → (w : AllWellFormed left right c) × T (accepts (view left right c) (ranks left right c))
-  code-accepts e = let q = accepted-case left right c e in (q .0, accepts-is (q .0) .1 (q .1, q .2))
-
-  -- ---- the counts
-
-  pairs-are : pairsIn (rowsPart c (sizesOf left right)) (statesOf left) ≡ sumBelow (statesOf left) (λ s. countBits (rowOf (rowsPart c (sizesOf left right)) s))
-  unfolding pairsIn
-  pairs-are = refl
-
-  sizes-most : obligationsOf (view left right c) ≤ stepsOf left * statesOf right + stepsOf right * statesOf left
-  unfolding viewOf systemOf
-  sizes-most = obligations-most (view left right c)
-
-  answer-counted : verdict (view left right c) (ranks left right c) (checks (view left right c)) ≡ accepted
-      → Accepted left right c (verdictAnswer (view left right c) (ranks left right c) (pairsIn (rowsPart c (sizesOf left right)) (statesOf left)) accepted)
-  answer-counted e =
-      let v = view left right c in
-      let r = ranks left right c in
-      let s = counts-sum v r (checks v) (verdict-e v r (checks v) e) ∙ count-checks v in
-      record {
-        code-0 = refl;
-        file-0 = refl;
-        pairs = pairs-are;
-        by-answer = counts-answer v r (checks v);
-        by-stutter = counts-stutter v r (checks v);
-        by-match = counts-match v r (checks v);
-        together = s;
-        at-most = let m = sizes-most in omega arith;
-      }
-
-  counted : judgeAnswer left right c .code ≡ 0 → Accepted left right c (judgeAnswer left right c)
-  counted z = let q = accepted-case left right c z in subst (Accepted left right c) (sym (q .3)) (answer-counted (q .2))
+  code-accepts e =
+      let q = none-certified (zero-accepted left right c e .0) in
+      (q .0, accepts-iff (view left right c) (formed-view (q .0)) (ranks left right c) .1 (q .1))
 
   pub judge-exact : JudgeExact left right c (judgeAnswer left right c)
   judge-exact =
@@ -120,11 +91,12 @@ module _ (left right c : List ℕ) (bytes : AreBytes c) where
       let r = ranks left right c in
       let k = view-plain left right (rowsPart c (sizesOf left right)) in
       record {
-        certificates = (
-          λ e. let q = code-accepts e in (q .0, accepts-iff v (formed-view (q .0)) r .0 (q .1)),
-          λ p. accepts-code (p .0) (accepts-iff v (formed-view (p .0)) r .1 (p .1)),
+        certificates = (λ e. none-certified (zero-accepted left right c e .0), λ p. accepted-zero left right c (certified-none (p .0) (p .1)));
+        triples = (
+          λ e. let q = none-certified (zero-accepted left right c e .0) in let p = triples-are (q .0) .0 (q .1) in (q .0, p .0, p .1),
+          λ p. accepted-zero left right c (certified-none (p .0) (triples-are (p .0) .1 (p .1, p .2))),
         );
-        counted = counted;
+        counted = λ e. zero-accepted left right c e .1;
         literal-accepted = λ w i b. accepts-code w (bisimulation-accepted v (formed-view w) k (no-twice w .0) (no-twice w .1) r i b);
         accepted-raised = λ e. let q = code-accepts e in accepted-bisimulation v (formed-view (q .0)) k r (q .1);
       }

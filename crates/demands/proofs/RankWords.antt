@@ -23,11 +23,11 @@ pub stutter-ranks : (v : View) → WellFormed v → T (noneEndless v) → Stutte
 unfolding stutterRank noneEndless
 stutter-ranks v w e =
     record {
-      some-chain = λ s t l k h. let q = chain-some v t (v .own .states) s in (q .0, q .1, q .2 ∙ sym (cond-true (v .related s t) (chainLength v t (v .own .states) s) 0 h));
+      some-chain = λ s t l k h. let q = chain-some v w t (v .own .states) s h in (q .0, q .1, q .2 ∙ sym (cond-true (v .related s t) (chainLength v t (v .own .states) s) 0 h));
       none-longer = λ s t l k h J c.
           let b : chainLength v t (v .own .states) s < v .own .states = ltb→lt _ _ (pairs-e v w _ e s t h) in
           let d = cond-true (v .related s t) (chainLength v t (v .own .states) s) 0 h in
-          omega (arith, chain-longest v t (v .own .states) s J c b, d);
+          omega (arith, chain-longest v w t (v .own .states) s J c b, d);
       unrelated = λ s t l k h. cond-false (v .related s t) (chainLength v t (v .own .states) s) 0 h;
     }
 

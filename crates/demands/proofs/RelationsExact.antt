@@ -15,20 +15,19 @@ use Rattle.bisimulation.specs.Namjoshi.{InitialStatesRelated, SomeRank}
 use Rattle.bisimulation.proofs.NamjoshiTheorems.{accepted-iff-bisimulation}
 use Rattle.table_reader.specs.TableReading.{headOf}
 use Rattle.tables.specs.Model.{systemOf}
-use Rattle.table_reader.proofs.ConditionLaws.{none-good}
+use Rattle.table_reader.proofs.TableCauseLaws.{formed-good}
 use Rattle.table_reader.proofs.TableLaws.{table-ok}
 use Rattle.certificates.specs.declared.Sizes.{Sizes}
 use Rattle.certificates.specs.Layout.{sizesOf, rowsPart}
 use Rattle.certificates.specs.CertificateModel.{AreBytes, viewOf, ranksOf}
-use Rattle.certificate_reader.proofs.CertificateConditionLaws.{certificate-good-none, certificate-none-good, relation-none-good}
+use Rattle.certificate_reader.proofs.CertificateCauseLaws.{certificate-good-none, certificate-none-good, relation-none-good}
 use Rattle.certificates.proofs.ModelLaws.{rows-length, rows-byte, ranks-bytes, view-plain}
 use Rattle.certificate_reader.proofs.CertificateLaws.{certificate-ok, relation-ok, view-formed}
 use Rattle.files.specs.File.{certificateFile}
 use Rattle.files.proofs.FileLaws.{FitsHeader, file-rows, file-ranks, file-good, file-bytes}
 use Rattle.checker.specs.Judge.{judgeAnswer}
-use Rattle.ranking.specs.Make.{DrawingRead}
-use Rattle.demands.specs.Judged.{AllWellFormed}
-use Rattle.demands.specs.Demand2.{HasRows, Drawn}
+use Rattle.ranking.specs.Make.{InputsRead}
+use Rattle.demands.specs.Demand2.{AllWellFormed, HasRows, Drawn}
 use Rattle.demands.proofs.AgreeLaws.{AgreeInside, accepts-agree}
 use Rattle.demands.proofs.JudgeExact.{accepts-code, code-accepts}
 
@@ -42,28 +41,28 @@ module _ (left right relation : List ℕ) (drawn : Drawn left right relation) wh
   pub drawn-formed : WellFormed drawnView
   unfolding sizesOf
   drawn-formed =
-      view-formed left right relation (none-good left (drawn .left-formed)) (none-good right (drawn .right-formed)) (drawn .relation-bytes)
-      (relation-ok z relation (relation-none-good z relation (drawn .relation-formed)) .1 .narrow)
+      view-formed left right relation (formed-good left (drawn .left-formed)) (formed-good right (drawn .right-formed)) (drawn .relation-bytes)
+      (relation-ok z relation (relation-none-good 2 z relation (drawn .relation-formed)) .1 .narrow)
 
-  pub drawn-read : DrawingRead left right relation
+  pub drawn-read : InputsRead left right relation
   drawn-read =
       record {
         head = headOf left;
         head′ = headOf right;
         sizes = sizesOf left right;
-        left-good = none-good left (drawn .left-formed);
-        right-good = none-good right (drawn .right-formed);
-        drawing-good = relation-none-good (sizesOf left right) relation (drawn .relation-formed);
+        left-good = formed-good left (drawn .left-formed);
+        right-good = formed-good right (drawn .right-formed);
+        relation-good = relation-none-good 2 (sizesOf left right) relation (drawn .relation-formed);
       }
 
   pub drawn-length : length relation ≡ 8 * z .n1
-  drawn-length = relation-ok z relation (relation-none-good z relation (drawn .relation-formed)) .1 .long
+  drawn-length = relation-ok z relation (relation-none-good 2 z relation (drawn .relation-formed)) .1 .long
 
   pub drawn-sizes : FitsHeader z
   unfolding sizesOf
   drawn-sizes =
-      let a = table-ok left (none-good left (drawn .left-formed)) in
-      let b = table-ok right (none-good right (drawn .right-formed)) in
+      let a = table-ok left (formed-good left (drawn .left-formed)) in
+      let b = table-ok right (formed-good right (drawn .right-formed)) in
       let n1 = a .states-le in
       let n2 = b .states-le in
       let m1 = a .steps-le in
@@ -72,14 +71,14 @@ module _ (left right relation : List ℕ) (drawn : Drawn left right relation) wh
 
   pub drawn-few : (drawnView .own .states ≤ 64) × (drawnView .other .states ≤ 64)
   unfolding viewOf systemOf
-  drawn-few = (table-ok left (none-good left (drawn .left-formed)) .states-le, table-ok right (none-good right (drawn .right-formed)) .states-le)
+  drawn-few = (table-ok left (formed-good left (drawn .left-formed)) .states-le, table-ok right (formed-good right (drawn .right-formed)) .states-le)
 
   -- ---- a file that has the rows gives the drawn view
 
   pub rows-are : (c : List ℕ) → AllWellFormed left right c → HasRows left right relation c → rowsPart c z ≡ relation
   unfolding sizesOf
   rows-are c w h =
-      let long = certificate-ok z c (certificate-none-good z c (w .certificate-formed)) .1 .long in
+      let long = certificate-ok z c (certificate-none-good 2 z c (w .certificate-formed)) .1 .long in
       let a = rows-length z c long in
       ext-getD 0 (rowsPart c z) relation (a ∙ sym drawn-length) (λ i l. let k : i < 8 * z .n1 = rw a at l in rows-byte z c i k ∙ h i k)
 
@@ -100,7 +99,7 @@ module _ (left right relation : List ℕ) (drawn : Drawn left right relation) wh
         record {
           left-formed = drawn .left-formed;
           right-formed = drawn .right-formed;
-          certificate-formed = certificate-good-none z file (file-good z relation r drawn-length drawn-sizes (relation-ok z relation (relation-none-good z relation (drawn .relation-formed)) .1 .narrow)) .1;
+          certificate-formed = certificate-good-none 2 z file (file-good z relation r drawn-length drawn-sizes (relation-ok z relation (relation-none-good 2 z relation (drawn .relation-formed)) .1 .narrow)) .1;
         }
 
     pub file-are-bytes : AreBytes file

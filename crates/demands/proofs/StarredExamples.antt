@@ -1,11 +1,17 @@
 -- The starred bench examples of document 01: the definitions, computed on the bytes. Assumes nothing.
-use mathlib.Core.Path.{_≡_, refl}
+use mathlib.Core.Path.{_≡_, refl, ap}
 use mathlib.Core.List.{[], _∷_, _++_}
+use native.Mathlib.Decide.{decLt}
+use native.Mathlib.Omega.{arith}
+use lib.Dec.{ltb, ltb→lt}
 use lib.ListN.{length}
 use Rattle.lists.specs.Below.{anyBelow, allBelow, firstBelow, sumBelow, countBelow, mostBelow}
-use Rattle.lists.specs.Numbers.{bigEndian, bigBytes}
-use Rattle.lists.specs.Lists.{tabulate, grid, putFront}
+use Rattle.lists.specs.Numbers.{byteAt, bigEndian, bigBytes}
+use Rattle.lists.specs.Lists.{joinBelow, tabulate, grid, putFront}
+use Rattle.lists.proofs.BelowLaws.{all-e}
+use Rattle.lists.proofs.FillLaws.{getD-past}
 use Rattle.words.specs.Bits.{hasBit, addBit, hasFrom, countBits, firstBit}
+use Rattle.bisimulation.specs.PathProperty.{PathProperty}
 use Rattle.bisimulation.specs.Judge.{is2a, is2b, is2c}
 use Rattle.bisimulation.specs.Triples.{ahead}
 use Rattle.bisimulation.specs.Maker.{matchesWithin, matched, distance, stutters, chainLength, stutterRank, matchRank}
@@ -15,14 +21,19 @@ use Rattle.tables.specs.Model.{systemOf}
 use Rattle.certificates.specs.Layout.{sizesOf, certificateLength, rowsAt, alAt, arAt, clAt, crAt, rowsPart, rowOf}
 use Rattle.certificate_reader.specs.CertificateReading.{certificateSizesFit, wideRow, readRows, readCertificate, readRelation}
 use Rattle.certificate_reader.specs.CertificateReading as certificates
-use Rattle.certificates.specs.CertificateModel.{relatedIn, viewOf, ranksOf}
+use Rattle.certificates.specs.CertificateModel.{AreBytes, relatedIn, viewOf, ranksOf}
 use Rattle.obligations.specs.Obligation.{outcomeOf, isApart, obligationAt}
-use Rattle.obligations.specs.Judging.{joinBelow, stepsFrom, pairChecks, checks, result, verdict, countBy}
+use Rattle.answers.specs.Verdicts.{along, firstOf}
+use Rattle.answers.specs.declared.Answer.{Answer}
+use Rattle.obligations.specs.Judging.{stepsFrom, pairChecks, checks, startsVerdict, checkVerdict}
 use Rattle.files.specs.File.{certificateHeader, certificateFile}
-use Rattle.examination.specs.Examine.{examined, startsVerdict, firstStop, firstOf, makerResult, resultBy, answered, endlessAt, firstChain, endless}
-use Rattle.ranking.specs.Make.{roomThen, fileFor, madeAnswer, makeAnswer, outputAfter, makeOutput}
-use Rattle.checker.specs.Judge.{pairsIn, judged, judgedBytes, judgeAnswer}
-use Rattle.demands.specs.Examples.{six, P, Q, K, certificate, low, zeros, still, looping, stillCertificate}
+use Rattle.examination.specs.Examine.{examined, makerVerdict, verdictBy, answered, endlessAt, firstChain, endless}
+use Rattle.ranking.specs.Make.{roomVerdict, fileFor, madeVerdict, makeVerdict, makeAnswer, makeOutput}
+use Rattle.checker.specs.Judge.{pairsIn, judged, judgedBytes, judgeVerdict, judgeAnswer}
+use Rattle.demands.specs.Demand2.{Drawn}
+use Rattle.demands.specs.Examples.{six, P, Q, rowsPQ, K, certificate, low, zeros, still, looping, stillCertificate}
+use Rattle.demands.proofs.MakerAnswers.{made-drawn}
+use Rattle.demands.proofs.MakerExact.{maker-exact}
 
 pub starred : (judgeAnswer P Q K ≡ six 0 0 3 4 1 1)
     × (judgeAnswer P Q (certificate 3 4 0 1) ≡ six 19 2 1 0 0 0)
@@ -36,17 +47,35 @@ pub starred : (judgeAnswer P Q K ≡ six 0 0 3 4 1 1)
 unfolding
     anyBelow allBelow firstBelow sumBelow countBelow bigEndian hasBit addBit hasFrom countBits firstBit is2a is2b is2c ahead magicFits versionOf statesOf statesFit startOf stepsOf initialOf tableLength labelsAt stepsAt stepsEnd
     labelsPart stepsPart labelOf fromOf toOf endsOutside sameStep doubled readSizes readHeader readSteps readTable systemOf sizesOf certificateLength rowsAt alAt arAt clAt crAt rowsPart rowOf certificateSizesFit wideRow
-    readRows readCertificate certificates.readHeader relatedIn viewOf ranksOf outcomeOf isApart obligationAt joinBelow stepsFrom pairChecks checks result verdict countBy pairsIn judged judgedBytes judgeAnswer readRelation roomThen examined startsVerdict firstStop firstOf makerResult resultBy answered endlessAt firstChain endless matchesWithin matched distance stutters chainLength stutterRank matchRank mostBelow madeAnswer makeAnswer outputAfter makeOutput fileFor certificateHeader certificateFile bigBytes tabulate grid putFront
+    readRows readCertificate certificates.readHeader relatedIn viewOf ranksOf outcomeOf isApart obligationAt joinBelow stepsFrom pairChecks checks along startsVerdict checkVerdict pairsIn judged judgedBytes judgeVerdict judgeAnswer readRelation roomVerdict examined firstOf makerVerdict verdictBy answered endlessAt firstChain endless matchesWithin matched distance stutters chainLength stutterRank matchRank mostBelow madeVerdict makeVerdict makeAnswer makeOutput fileFor certificateHeader certificateFile bigBytes tabulate grid putFront
 starred = (refl, refl, refl, refl, refl, refl, refl, refl, refl)
 
 -- K has 51 bytes, and the maker writes exactly K, into an output of 51 bytes or at the front of a longer one; 50 bytes are too few
 pub made-K : (length K ≡ 51)
-    × (makeAnswer P Q (low 3 ++ low 4) (zeros 51) ≡ six 0 0 51 0 0 0)
-    × (makeOutput P Q (low 3 ++ low 4) (zeros 51) ≡ K)
-    × (makeOutput P Q (low 3 ++ low 4) (zeros 51 ++ (7 ∷ 8 ∷ [])) ≡ K ++ (7 ∷ 8 ∷ []))
-    × (makeAnswer P Q (low 3 ++ low 4) (zeros 50) ≡ six 21 3 51 0 0 0)
+    × (makeAnswer P Q rowsPQ (zeros 51) ≡ six 0 0 51 0 0 0)
+    × (makeOutput P Q rowsPQ (zeros 51) ≡ K)
+    × (makeOutput P Q rowsPQ (zeros 51 ++ (7 ∷ 8 ∷ [])) ≡ K ++ (7 ∷ 8 ∷ []))
+    × (makeAnswer P Q rowsPQ (zeros 50) ≡ six 21 3 51 0 0 0)
 unfolding
     anyBelow allBelow firstBelow sumBelow countBelow bigEndian hasBit addBit hasFrom countBits firstBit is2a is2b is2c ahead magicFits versionOf statesOf statesFit startOf stepsOf initialOf tableLength labelsAt stepsAt stepsEnd
     labelsPart stepsPart labelOf fromOf toOf endsOutside sameStep doubled readSizes readHeader readSteps readTable systemOf sizesOf certificateLength rowsAt alAt arAt clAt crAt rowsPart rowOf certificateSizesFit wideRow
-    readRows readCertificate certificates.readHeader relatedIn viewOf ranksOf outcomeOf isApart obligationAt joinBelow stepsFrom pairChecks checks result verdict countBy pairsIn judged judgedBytes judgeAnswer readRelation roomThen examined startsVerdict firstStop firstOf makerResult resultBy answered endlessAt firstChain endless matchesWithin matched distance stutters chainLength stutterRank matchRank mostBelow madeAnswer makeAnswer outputAfter makeOutput fileFor certificateHeader certificateFile bigBytes tabulate grid putFront
+    readRows readCertificate certificates.readHeader relatedIn viewOf ranksOf outcomeOf isApart obligationAt joinBelow stepsFrom pairChecks checks along startsVerdict checkVerdict pairsIn judged judgedBytes judgeVerdict judgeAnswer readRelation roomVerdict examined firstOf makerVerdict verdictBy answered endlessAt firstChain endless matchesWithin matched distance stutters chainLength stutterRank matchRank mostBelow madeVerdict makeVerdict makeAnswer makeOutput fileFor certificateHeader certificateFile bigBytes tabulate grid putFront
 made-K = (refl, refl, refl, refl, refl)
+
+-- P and Q with the rows 3 and 4 are well formed, and the relation has the path property: no hypothesis of the demands is empty
+
+bytes-PQ : AreBytes rowsPQ
+unfolding allBelow
+bytes-PQ i = elim (decLt i 16) [
+  | yes l ↦ ltb→lt _ _ (all-e 16 (λ k. ltb (byteAt rowsPQ k) 256) tt i l)
+  | no l ↦ (let e = getD-past rowsPQ i (omega arith) in omega arith)
+]
+
+success-PQ : makeAnswer P Q rowsPQ (zeros 51) .code ≡ 0
+success-PQ = ap (λ (a : Answer). a .code) (made-K .1)
+
+pub drawn-PQ : Drawn P Q rowsPQ
+drawn-PQ = made-drawn P Q rowsPQ (zeros 51) bytes-PQ success-PQ .0
+
+pub property-PQ : PathProperty (viewOf P Q rowsPQ)
+property-PQ = maker-exact P Q rowsPQ (zeros 51) drawn-PQ (made-drawn P Q rowsPQ (zeros 51) bytes-PQ success-PQ .1) .succeeds .0 success-PQ

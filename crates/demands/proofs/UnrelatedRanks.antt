@@ -1,8 +1,8 @@
 -- Ranks of unrelated pairs are not looked at: two certificates that differ only there get the same six numbers. Assumes nothing.
 use Prim.Native.Nat.{ℕ, _+_, _*_, _≤_, _<_}
-use mathlib.Core.Path.{_≡_, refl, sym, ap, ap₂, _∙_, subst, fun-ext}
+use mathlib.Core.Path.{_≡_, refl, sym, ap, ap₂, _∙_, subst}
 use mathlib.Core.Bool.{Bool, true, false, cond, not, _&&_}
-use mathlib.Core.List.{List, [], _∷_, map}
+use mathlib.Core.List.{List, [], _∷_}
 use native.Mathlib.Omega.{arith}
 use lib.Dec.{T, ltb, eqb}
 use lib.ListN.{length}
@@ -17,12 +17,13 @@ use Rattle.bisimulation.specs.Systems.{View, Ranks, flip, swap}
 use Rattle.bisimulation.specs.Judge.{is2a, is2b, is2c, meets2c}
 use Rattle.tables.specs.Table.{statesOf, startOf, magicFits}
 use Rattle.table_reader.specs.TableReading.{readTable}
-use Rattle.tables.specs.declared.Answer.{Answer}
+use Rattle.answers.specs.Verdicts.{Verdict, _andThen_, answerOf}
+use Rattle.answers.proofs.VerdictLaws.{then-cong, along-cong}
 use Rattle.table_reader.specs.declared.TableRead.{TableRead}
 use Rattle.table_reader.specs.declared.TableRead.the-variants as table
 use Rattle.certificates.specs.Layout.{sizesOf, certificateLength, rowsAt, alAt, rowsPart}
 use Rattle.certificate_reader.specs.CertificateReading.{certificateSizesFit, readHeader, readRows, withRows, readCertificate}
-use Rattle.certificates.specs.CertificateModel.{viewOf, ranksOf}
+use Rattle.certificates.specs.CertificateModel.{viewOf, ranksOf, certifiedView as view, certifiedRanks as ranks}
 use Rattle.certificates.specs.declared.Sizes.{Sizes}
 use Rattle.certificate_reader.specs.declared.CertificateRefusal.{CertificateRefusal}
 use Rattle.certificate_reader.specs.declared.CertificateRefusal.the-variants as refused
@@ -30,16 +31,15 @@ use Rattle.certificate_reader.specs.declared.CertificateRead.{CertificateRead}
 use Rattle.certificate_reader.specs.declared.CertificateRead.the-variants as certificate
 use Rattle.certificates.proofs.ModelLaws.{rows-length, rows-byte}
 use Rattle.certificate_reader.proofs.CertificateLaws.{certificate-ok}
-use Rattle.checker.specs.Judge.{certificateThen, pairsIn, verdictAnswer, judged, judgedBytes, judgeAnswer}
-use Rattle.table_reader.specs.TableAnswers.{tableThen}
-use Rattle.demands.specs.Judged.{view, ranks}
+use Rattle.checker.specs.Progress.{none, tallied, acceptance}
+use Rattle.checker.specs.Judge.{pairsIn, judged, judgedBytes, judgeVerdict, answerAfter, judgeAnswer}
+use Rattle.checker.specs.declared.Tally.{Tally}
+use Rattle.table_reader.specs.TableAnswers.{tableVerdict}
+use Rattle.certificate_reader.specs.CertificateAnswers.{certificateVerdict}
 use Rattle.demands.specs.Demand2.{SameWhereRelated}
-use Rattle.obligations.specs.CheckAnswers.{startsAnswer}
 use Rattle.obligations.specs.Obligation.{outcomeOf, isApart, obligationAt}
-use Rattle.obligations.specs.Judging.{stepsFrom, Check, leftStep, rightStep, pairChecks, checks, stepResult, result, Verdict, accepted, refusedWith, verdict, andThen, isBy, countBy}
-use Rattle.obligations.specs.declared.Clause.{Clause}
-use Rattle.obligations.specs.declared.Clause.the-variants.{Answer as Answered, Stutter as Stuttered, Match as Matched}
-use Rattle.obligations.proofs.JudgingLaws.{all-append, all-when, all-map, all-join, steps-all}
+use Rattle.obligations.specs.Judging.{Check, checks, startsVerdict, Finding, stepVerdict, checkVerdict}
+use Rattle.obligations.proofs.JudgingLaws.{checks-all}
 
 -- The ranks are the same where the own state and the other's are related.
 record SameRanks (v : View) (r r′ : Ranks) : Type 0 where
@@ -68,39 +68,28 @@ module _ (v : View) (r r′ : Ranks) (same : SameRanks v r r′) (j t : ℕ) (re
 
 module _ (v : View) (r r′ : Ranks) where
   abbrev Same : Check → Type 0
-  Same c = result v r c ≡ result v r′ c
-
-  verdict-same : (cs : List Check) → All Same cs → verdict v r cs ≡ verdict v r′ cs
-  unfolding verdict
-  verdict-same [] a = refl
-  verdict-same (c ∷ cs) a = ap₂ andThen (a .0) (verdict-same cs (a .1))
-
-  count-same : (clause : Clause) (cs : List Check) → All Same cs → countBy v r clause cs ≡ countBy v r′ clause cs
-  unfolding countBy
-  count-same clause [] a = refl
-  count-same clause (c ∷ cs) a = ap₂ _+_ (ap (isBy clause) (a .0)) (count-same clause cs (a .1))
+  Same c = checkVerdict v r c ≡ checkVerdict v r′ c
 
   -- every check is one of a related pair
   checks-same : SameRanks v r r′ → SameRanks (flip v) (swap r) (swap r′) → All Same (checks v)
-  unfolding checks pairChecks result
+  unfolding checkVerdict
   checks-same a b =
-      all-join Same _ _ λ s ls. all-join Same _ _ λ t lt. all-when Same (v .related s t) _ λ h. (
-        refl,
-        all-append Same (map (leftStep s t) (stepsFrom (v .own) s)) (map (rightStep s t) (stepsFrom (v .other) t))
-            (all-map Same (leftStep s t) (stepsFrom (v .own) s) (steps-all (v .own) s _ λ j l e. ap (stepResult 0 s t j) (same-obligation v r r′ a j t (subst (λ (x : ℕ). T (v .related x t)) (sym e) h))))
-            (all-map Same (rightStep s t) (stepsFrom (v .other) t) (steps-all (v .other) t _ λ j l e. ap (stepResult 1 s t j) (same-obligation (flip v) (swap r) (swap r′) b j s (subst (λ (x : ℕ). T (v .related s x)) (sym e) h)))),
-      )
+      checks-all v Same (record {
+        labels = λ s t h. refl;
+        left = λ s t h j l e. ap (stepVerdict 0 s t j) (same-obligation v r r′ a j t (subst (λ (x : ℕ). T (v .related x t)) (sym e) h));
+        right = λ s t h j l e. ap (stepVerdict 1 s t j) (same-obligation (flip v) (swap r) (swap r′) b j s (subst (λ (x : ℕ). T (v .related s x)) (sym e) h));
+      })
+
+  judged-same-ranks : SameRanks v r r′ → SameRanks (flip v) (swap r) (swap r′) → (start start′ : ℕ) → judged v r start start′ ≡ judged v r′ start start′
+  unfolding judged
+  judged-same-ranks a b start start′ =
+      then-cong (startsVerdict v start start′) (λ x. along-cong (λ c. tallied (checkVerdict v r c)) (λ c. tallied (checkVerdict v r′ c)) (checks v) (all-imply (checks v) (checks-same a b)) none)
+    where
+      all-imply : (cs : List Check) → All Same cs → All (λ c. (y : Tally) → tallied (checkVerdict v r c) y ≡ tallied (checkVerdict v r′ c) y) cs
+      all-imply [] h = tt
+      all-imply (c ∷ cs) h = (λ y. ap (λ (x : Verdict Finding). tallied x y) (h .0), all-imply cs (h .1))
 
 -- ---- on bytes
-
--- The answer of a verdict with these counts.
-abbrev answerOf : ℕ → (Clause → ℕ) → Verdict → Answer
-answerOf pairs f accepted = record { code = 0; file = 0; a = pairs; b = f Answered; c = f Stuttered; d = f Matched }
-answerOf pairs f (refusedWith answer) = answer
-
-answer-of : (v : View) (r : Ranks) (pairs : ℕ) (w : Verdict) → verdictAnswer v r pairs w ≡ answerOf pairs (λ k. countBy v r k (checks v)) w
-answer-of v r pairs accepted = refl
-answer-of v r pairs (refusedWith answer) = refl
 
 module _ (left right c c′ : List ℕ) (d : SameWhereRelated left right c c′) where
   abbrev z : Sizes
@@ -171,31 +160,30 @@ module _ (left right c c′ : List ℕ) (d : SameWhereRelated left right c c′)
   unfolding ranksOf viewOf sizesOf
   ranks-same′ = record { stutter = λ t s h. d .ar s t h; match = λ j s h. d .cr j s h }
 
-  -- where the certificate is read, the verdict, the counts and the pairs are the same
-  answer-same : (pairs : ℕ) → let v = view left right c in
-      verdictAnswer v (ranks left right c) pairs (verdict v (ranks left right c) (checks v)) ≡ verdictAnswer v (ranks left right c′) pairs (verdict v (ranks left right c′) (checks v))
-  answer-same pairs =
-      let v = view left right c in
-      let all = checks-same v (ranks left right c) (ranks left right c′) ranks-same ranks-same′ in
-      answer-of v (ranks left right c) pairs (verdict v (ranks left right c) (checks v))
-      ∙ ap₂ (answerOf pairs) (fun-ext (λ k. count-same v (ranks left right c) (ranks left right c′) k (checks v) all)) (verdict-same v (ranks left right c) (ranks left right c′) (checks v) all)
-      ∙ sym (answer-of v (ranks left right c′) pairs (verdict v (ranks left right c′) (checks v)))
-
+  -- where the certificate is read, the verdict and the pairs are the same
   judged-same : length c ≡ certificateLength z → judgedBytes left right c (startOf left) (startOf right) ≡ judgedBytes left right c′ (startOf left) (startOf right)
-  unfolding judgedBytes judged
+  unfolding judgedBytes
   judged-same e =
-      ap (λ (x : Answer). cond (view left right c .related (startOf left) (startOf right)) x (startsAnswer (startOf left) (startOf right))) (answer-same (pairsIn (rowsPart c z) (statesOf left)))
-      ∙ ap (λ (rows : List ℕ). judged (viewOf left right rows) (ranks left right c′) (pairsIn rows (statesOf left)) (startOf left) (startOf right)) (rows-same e)
+      judged-same-ranks (view left right c) (ranks left right c) (ranks left right c′) ranks-same ranks-same′ (startOf left) (startOf right)
+      ∙ ap (λ (rows : List ℕ). judged (viewOf left right rows) (ranks left right c′) (startOf left) (startOf right)) (rows-same e)
+
+  -- the verdict on a certificate where the tables' reads are these
+  abbrev verdictOn : List ℕ → TableRead → TableRead → Verdict Tally
+  verdictOn x left-read right-read =
+      tableVerdict 0 left-read andThen λ h.
+      tableVerdict 1 right-read andThen λ k.
+      certificateVerdict 2 (readCertificate z x) andThen λ y.
+      judgedBytes left right x (startOf left) (startOf right)
 
   -- two certificates that differ only in ranks of unrelated pairs get the same six numbers
   pub unrelated-ranks : judgeAnswer left right c ≡ judgeAnswer left right c′
-  unfolding judgeAnswer
+  unfolding judgeAnswer judgeVerdict
   unrelated-ranks = go (readTable left) (readTable right) (readCertificate z c) refl
     where
-      go : (x y : TableRead) (k : CertificateRead) → readCertificate z c ≡ k
-          → tableThen x 0 (tableThen y 1 (certificateThen (readCertificate z c) (judgedBytes left right c (startOf left) (startOf right))))
-          ≡ tableThen x 0 (tableThen y 1 (certificateThen (readCertificate z c′) (judgedBytes left right c′ (startOf left) (startOf right))))
+      go : (x y : TableRead) (k : CertificateRead) → readCertificate z c ≡ k → answerAfter left right c (verdictOn c x y) ≡ answerAfter left right c′ (verdictOn c′ x y)
       go (table.Refused r) y k e = refl
       go (table.Good h) (table.Refused r) k e = refl
       go (table.Good h) (table.Good i) (certificate.Refused r) e = rw (← read-same, e)
-      go (table.Good h) (table.Good i) (certificate.Good s) e = rw (← read-same, e) (judged-same (certificate-ok z c e .1 .long))
+      go (table.Good h) (table.Good i) (certificate.Good s) e =
+          let l = certificate-ok z c e .1 .long in
+          rw (← read-same, e, judged-same l) (ap (λ (rows : List ℕ). answerOf (acceptance (pairsIn rows (statesOf left))) (judgedBytes left right c′ (startOf left) (startOf right))) (rows-same l))

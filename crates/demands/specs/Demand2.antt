@@ -8,20 +8,33 @@ use lib.Dec.{T}
 use lib.ListN.{length}
 use Rattle.lists.specs.Numbers.{byteAt}
 use Rattle.bisimulation.specs.Clauses.{Meets, Certified}
-use Rattle.bisimulation.specs.Namjoshi.{Bisimulation, InitialStatesRelated}
+use Rattle.bisimulation.specs.Namjoshi.{Bisimulation, BisimulationWithoutConjunct, InitialStatesRelated}
 use Rattle.bisimulation.specs.Triples.{tripleRank, raised}
 use Rattle.tables.specs.Table.{statesOf}
-use Rattle.table_reader.specs.Conditions.{NoneApplies, WellFormedTable}
-use Rattle.tables.specs.declared.Answer.{Answer}
+use Rattle.answers.specs.Causes.{NoCause}
+use Rattle.table_reader.specs.TableCauses.{WellFormedTable}
+use Rattle.answers.specs.declared.Answer.{Answer}
 use Rattle.certificates.specs.Layout.{sizesOf, rowsAt, alAt, arAt, clAt, crAt}
-use Rattle.certificate_reader.specs.CertificateConditions.{relationCauses}
-use Rattle.certificates.specs.CertificateModel.{AreBytes}
-use Rattle.demands.specs.Judged.{view, ranks, AllWellFormed, Accepted}
+use Rattle.certificates.specs.CertificateModel.{AreBytes, certifiedView as view, certifiedRanks as ranks}
+use Rattle.certificate_reader.specs.CertificateCauses.{certificateCauses, relationCauses}
+use Rattle.demands.specs.Demand1.{Accepted}
+
+-- The three files are well formed: none of 1 to 15 applies.
+pub record AllWellFormed (left right c : List ℕ) : Type 0 where
+  pub left-formed : WellFormedTable left
+  pub right-formed : WellFormedTable right
+  pub certificate-formed : NoCause (certificateCauses 2 (sizesOf left right) c)
 
 -- The judge's answer to the certificate c.
 pub record JudgeExact (left right c : List ℕ) (answer : Answer) : Type 0 where
   -- It accepts exactly where all three files are well formed, the starts are related, labels are equal, and every obligation of both sides meets 2a, 2b or 2c.
   pub certificates : (answer .code ≡ 0) ↔ (AllWellFormed left right c × Certified Meets (view left right c) (ranks left right c))
+  -- It accepts exactly where all three files are well formed, the starts are related, and the paper's clauses without the conjunct (u, t) ∉ B of 2c hold
+  -- of the certificate's ranks as one rank of triples.
+  pub triples : (answer .code ≡ 0)
+      ↔ (AllWellFormed left right c
+      × InitialStatesRelated (view left right c)
+      × BisimulationWithoutConjunct (view left right c) _<_ (tripleRank (view left right c) (ranks left right c)))
   -- The counts are those of the related pairs and of the obligations by the clause that meets them.
   pub counted : answer .code ≡ 0 → Accepted left right c answer
   -- A certificate whose ranks, as one rank of triples, make the relation the paper's well-founded bisimulation, clause by clause, is accepted.
@@ -39,7 +52,7 @@ HasRows left right relation c = (i : ℕ) → i < 8 * statesOf left → byteAt c
 pub record Drawn (left right relation : List ℕ) : Type 0 where
   pub left-formed : WellFormedTable left
   pub right-formed : WellFormedTable right
-  pub relation-formed : NoneApplies (relationCauses (sizesOf left right) relation)
+  pub relation-formed : NoCause (relationCauses 2 (sizesOf left right) relation)
   pub relation-bytes : AreBytes relation
 
 -- Two certificates that differ only in ranks of unrelated pairs: they have one length, the same header and rows, and the same ranks where s, t are related.

@@ -2,7 +2,7 @@
 use Prim.Native.Nat.{ℕ}
 use mathlib.Core.List.{List, [], _∷_, _++_}
 use lib.ListN.{replicate}
-use Rattle.tables.specs.declared.Answer.{Answer}
+use Rattle.answers.specs.declared.Answer.{Answer}
 
 -- Six numbers.
 abbrev pub six : ℕ → ℕ → ℕ → ℕ → ℕ → ℕ → Answer
@@ -28,6 +28,10 @@ certificate row0 row1 ar cl =
 -- K has AR(0, 0) = 1, CL(step 0, 0) = 1, other ranks 0, and the rows 3 and 4; 51 bytes.
 abbrev pub K : List ℕ
 K = certificate 3 4 1 1
+
+-- The relation of P and Q: the rows 3 and 4.
+abbrev pub rowsPQ : List ℕ
+rowsPQ = low 3 ++ low 4
 
 -- One state, mark 0, and no step; the same with step 0-0; and a certificate of the first with itself, row 1.
 abbrev pub still : List ℕ

@@ -1,8 +1,5 @@
-pub mod TablesRefused
-pub mod Checks
-pub mod Judged
-pub mod Ranks
+pub mod Demand1
 pub mod Demand2
+pub mod Ranks
 pub mod Demand3
-pub mod Made
 pub mod Examples

@@ -4,7 +4,7 @@ use Prim.Native.Nat.{ℕ, _^_, _≤_, _<_}
 use mathlib.Core.Path.{_≡_, refl, sym, ap, ap₂, _∙_, fun-ext}
 use mathlib.Core.Logic.{_↔_}
 use mathlib.Core.Bool.{Bool, true, false, cond, _&&_, _||_}
-use mathlib.Core.List.{List, map}
+use mathlib.Core.List.{List}
 use native.Mathlib.Omega.{arith}
 use native.Mathlib.Decide.{decLt}
 use lib.Dec.{T, ltb, leb, eqb}
@@ -26,7 +26,9 @@ use Rattle.certificates.specs.Layout.{sizesOf}
 use Rattle.certificate_reader.specs.CertificateReading.{readRelation}
 use Rattle.certificates.specs.CertificateModel.{AreBytes, relatedIn, viewOf}
 use Rattle.certificate_reader.proofs.CertificateLaws.{relation-ok, view-formed}
-use Rattle.obligations.specs.Judging.{checks, Verdict, accepted, refusedWith}
+use Rattle.answers.specs.Verdicts.{Verdict, refusedWith, passed, passIf, firstIn}
+use Rattle.answers.proofs.VerdictLaws.{then-same, of-cong}
+use Rattle.obligations.specs.Judging.{checks, startsVerdict}
 use Rattle.relations.specs.Relation.{rowWords, columnWords}
 use Rattle.relations.proofs.RelationLaws.{rows-length, rows-related, rows-fit, columns-length, columns-flipped, columns-fit}
 use Rattle.lengths.specs.Side.{wordOf, sideOf, Agrees}
@@ -38,9 +40,8 @@ use Rattle.lengths.proofs.DistanceLaws.{matched-test}
 use Rattle.lengths.proofs.LengthTableLaws.{cell-distance, cell-chain}
 use Rattle.examination.specs.declared.Starts.{Starts}
 use Rattle.obligations.specs.CheckAnswers.{stepAnswer, labelsAnswer, chainAnswer}
-use Rattle.examination.specs.Examine.{followedBy, firstStop, answered, resultBy, makerResult, endlessAt, firstChain, endless, startsVerdict, examined}
-use Rattle.examination.specs.Walk.{wordsView, answeredBy, longBy, verdictIf, stepsVerdict, pairVerdict, rowVerdict, pairsVerdict, examinedBy}
-use Rattle.examination.proofs.VerdictLaws.{of-cong}
+use Rattle.examination.specs.Examine.{answered, verdictBy, makerVerdict, endlessAt, firstChain, endless, examined}
+use Rattle.examination.specs.Walk.{wordsView, answeredBy, longBy, stepsVerdict, pairVerdict, rowVerdict, pairsVerdict, examinedBy}
 use Rattle.examination.proofs.WalkLaws.{pairs-stop}
 use Rattle.examination.proofs.ExamineLaws.{examined-succeeds}
 
@@ -82,7 +83,7 @@ module _ (own other words : List ℕ) (v : View) (a : Agrees v (sideOf words (st
 
 -- ---- tests that agree give one verdict
 
-cond-cong : (b : Bool) {x y : Verdict} → (T b → x ≡ y) → cond b x accepted ≡ cond b y accepted
+cond-cong : (b : Bool) {x y : Verdict (Unit {0})} → (T b → x ≡ y) → cond b x passed ≡ cond b y passed
 cond-cong true h = h tt
 cond-cong false h = refl
 
@@ -92,10 +93,10 @@ module _ (v : View) (left right left′ right′ : ℕ → ℕ → Bool)
   pair-cong : (s t : ℕ) → T (v .related s t) → pairVerdict v left right s t ≡ pairVerdict v left′ right′ s t
   unfolding pairVerdict stepsVerdict
   pair-cong s t h =
-      ap (followedBy (verdictIf (eqb (v .own .label s) (v .other .label t)) (labelsAnswer s t)))
-      (ap₂ followedBy
-      (of-cong (v .own .steps) _ _ (λ j l. ap (λ (b : Bool). cond (eqb (v .own .from j) s) (verdictIf b (stepAnswer 22 0 s t j)) accepted) (same s t j h l)))
-      (of-cong (v .other .steps) _ _ (λ j l. ap (λ (b : Bool). cond (eqb (v .other .from j) t) (verdictIf b (stepAnswer 22 1 s t j)) accepted) (same′ s t j h l))))
+      then-same {v = passIf (eqb (v .own .label s) (v .other .label t)) (labelsAnswer s t)} refl
+      (then-same
+      (of-cong (v .own .steps) _ _ (λ j l. ap (λ (b : Bool). cond (eqb (v .own .from j) s) (passIf b (stepAnswer 22 0 s t j)) passed) (same s t j h l)))
+      (of-cong (v .other .steps) _ _ (λ j l. ap (λ (b : Bool). cond (eqb (v .other .from j) t) (passIf b (stepAnswer 22 1 s t j)) passed) (same′ s t j h l))))
 
   pub pairs-cong : pairsVerdict v left right ≡ pairsVerdict v left′ right′
   unfolding pairsVerdict rowVerdict
@@ -103,7 +104,7 @@ module _ (v : View) (left right left′ right′ : ℕ → ℕ → Bool)
 
 pub chains-cong : (side m n : ℕ) (long long′ : ℕ → ℕ → Bool) → ((b c : ℕ) → b < m → c < n → long b c ≡ long′ b c) → firstChain side m n long ≡ firstChain side m n long′
 unfolding firstChain
-chains-cong side m n long long′ e = of-cong m _ _ (λ b hb. of-cong n _ _ (λ c hc. ap (λ (k : Bool). cond k (refusedWith (chainAnswer side b c)) accepted) (e b c hb hc)))
+chains-cong side m n long long′ e = of-cong m _ _ (λ b hb. of-cong n _ _ (λ c hc. ap (λ (k : Bool). cond k (refusedWith (chainAnswer side b c)) passed) (e b c hb hc)))
 
 -- ---- two tables and a relation that are read
 
@@ -181,11 +182,11 @@ module _ (left right rows : List ℕ) {h k : Head} {y : Sizes} (gl : readTable l
       (omega arith, omega arith)
 
   -- 17 and 22
-  pairs-are : firstStop (map (resultBy (wordsView left right leftWords) (answeredBy (stepsPart left) leftWords leftDistances (statesOf right)) (answeredBy (stepsPart right) rightWords rightDistances (statesOf left))) (checks (wordsView left right leftWords)))
-      ≡ firstStop (map (makerResult view) (checks view))
-  unfolding makerResult
+  pairs-are : firstIn (verdictBy (wordsView left right leftWords) (answeredBy (stepsPart left) leftWords leftDistances (statesOf right)) (answeredBy (stepsPart right) rightWords rightDistances (statesOf left))) (checks (wordsView left right leftWords))
+      ≡ firstIn (makerVerdict view) (checks view)
+  unfolding makerVerdict
   pairs-are =
-      ap (λ (v : View). firstStop (map (resultBy v (answeredBy (stepsPart left) leftWords leftDistances (statesOf right)) (answeredBy (stepsPart right) rightWords rightDistances (statesOf left))) (checks v))) view-is
+      ap (λ (v : View). firstIn (verdictBy v (answeredBy (stepsPart left) leftWords leftDistances (statesOf right)) (answeredBy (stepsPart right) rightWords rightDistances (statesOf left))) (checks v)) view-is
       ∙ pairs-stop view (answeredBy (stepsPart left) leftWords leftDistances (statesOf right)) (answeredBy (stepsPart right) rightWords rightDistances (statesOf left))
       ∙ pairs-cong view (answeredBy (stepsPart left) leftWords leftDistances (statesOf right)) (answeredBy (stepsPart right) rightWords rightDistances (statesOf left)) (answered view) (answered (flip view))
       (λ s t j r l. side-answered left right leftWords view left-agrees (rows-length rows (statesOf left)) j t l (related-small s t r .1))
@@ -209,11 +210,10 @@ module _ (left right rows : List ℕ) {h k : Head} {y : Sizes} (gl : readTable l
   pub examination-is : examinedBy left right leftWords rightWords leftDistances rightDistances leftChains rightChains starts ≡ examined view (startOf left) (startOf right)
   unfolding examinedBy examined
   examination-is =
-      ap₂ followedBy (ap (λ (v : View). startsVerdict v (startOf left) (startOf right)) view-is)
-      (ap₂ followedBy pairs-are (ap₂ followedBy left-chains-are right-chains-are))
+      then-same (ap (λ (v : View). startsVerdict v (startOf left) (startOf right)) view-is) (then-same pairs-are (then-same left-chains-are right-chains-are))
 
   -- so it accepts exactly where the maker succeeds
-  pub examination-succeeds : (examinedBy left right leftWords rightWords leftDistances rightDistances leftChains rightChains starts ≡ accepted) ↔ T (succeeds view)
+  pub examination-succeeds : (examinedBy left right leftWords rightWords leftDistances rightDistances leftChains rightChains starts ≡ passed) ↔ T (succeeds view)
   unfolding viewOf
   examination-succeeds =
       let i = examined-succeeds view formed (startOf left) (startOf right) (table-formed left gl .one-initial) (table-formed right gr .one-initial) in

@@ -5,5 +5,4 @@ pub mod TestLaws
 pub mod PairLaws
 pub mod RowLaws
 pub mod ExamineLaws
-pub mod RefusalLaws
 pub mod BytesLaws

@@ -7,12 +7,12 @@ use borrow.Author.Tests.{eq-eqb, ne-eqb}
 use Rattle.lists.specs.Below.{firstBelow}
 use Rattle.tables.specs.Table.{statesOf, stepsOf, labelsPart, stepsPart, labelOf}
 use Rattle.tables.specs.Model.{systemOf}
-use Rattle.tables.specs.declared.Answer.{Answer}
-use Rattle.obligations.specs.Judging.{Verdict, accepted, refusedWith}
+use Rattle.answers.specs.declared.Answer.{Answer}
+use Rattle.answers.specs.Verdicts.{Verdict, refusedWith, _andThen_, passed, passIf}
+use Rattle.answers.proofs.VerdictLaws.{then-same}
 use Rattle.examination.specs.declared.Examined.the-variants.{Stopped}
 use Rattle.obligations.specs.CheckAnswers.{labelsAnswer, stepAnswer}
-use Rattle.examination.specs.Examine.{followedBy}
-use Rattle.examination.specs.Walk.{asExamined, wordsView, answeredBy, unansweredBy, verdictIf, stepsVerdict, pairVerdict}
+use Rattle.examination.specs.Walk.{asExamined, wordsView, answeredBy, unansweredBy, stepsVerdict, pairVerdict}
 use Rattle.examination.proofs.WalkLaws.{steps-refused, steps-kept}
 
 -- ---- the first step of a table that may not be kept
@@ -28,20 +28,20 @@ module _ (table words distances : List ℕ) (s t : ℕ) {list : List ℕ} {n m k
   unfolding systemOf unansweredBy
   side-refused l = steps-refused (systemOf table) (λ j. answeredBy (stepsPart table) words distances states j t) s answer first-is (subst (λ (i : ℕ). k < i) em l)
 
-  pub side-kept : m ≤ k → stepsVerdict (systemOf table) (λ j. answeredBy (stepsPart table) words distances states j t) s answer ≡ accepted
+  pub side-kept : m ≤ k → stepsVerdict (systemOf table) (λ j. answeredBy (stepsPart table) words distances states j t) s answer ≡ passed
   unfolding systemOf unansweredBy
   side-kept l = steps-kept (systemOf table) (λ j. answeredBy (stepsPart table) words distances states j t) s answer first-is (subst (λ (i : ℕ). i ≤ k) em l)
 
 -- ---- the four ends of a pair
 
 module _ (left right rows columns distances others : List ℕ) (s t : ℕ) where
-  abbrev pub pairAt : Verdict
+  abbrev pub pairAt : Verdict (Unit {0})
   pairAt = pairVerdict (wordsView left right rows) (answeredBy (stepsPart left) rows distances (statesOf right)) (answeredBy (stepsPart right) columns others (statesOf left)) s t
 
-  abbrev leftSteps : Verdict
+  abbrev leftSteps : Verdict (Unit {0})
   leftSteps = stepsVerdict (systemOf left) (λ j. answeredBy (stepsPart left) rows distances (statesOf right) j t) s (stepAnswer 22 0 s t)
 
-  abbrev rightSteps : Verdict
+  abbrev rightSteps : Verdict (Unit {0})
   rightSteps = stepsVerdict (systemOf right) (λ j. answeredBy (stepsPart right) columns others (statesOf left) j s) t (stepAnswer 22 1 s t)
 
   module _ {ll rl : List ℕ} {x y : ℕ} (el : ll ≡ labelsPart left) (er : rl ≡ labelsPart right) (ex : x ≡ labelOf ll s) (ey : y ≡ labelOf rl t) where
@@ -55,19 +55,19 @@ module _ (left right rows columns distances others : List ℕ) (s t : ℕ) where
 
     pub labels-differ : (x ≡ y → ⊥) → Stopped (labelsAnswer s t) ≡ asExamined pairAt
     unfolding pairVerdict
-    labels-differ d = sym (ap (λ (b : Bool). asExamined (followedBy (verdictIf b (labelsAnswer s t)) (followedBy leftSteps rightSteps)))
+    labels-differ d = sym (ap (λ (b : Bool). asExamined (passIf b (labelsAnswer s t) andThen λ z. leftSteps andThen λ z. rightSteps))
         (ne-eqb (systemOf left .label s) (systemOf right .label t) (λ q. d (sym label-left ∙ q ∙ label-right))))
 
     pub labels-same : x ≡ y → systemOf left .label s ≡ systemOf right .label t
     labels-same q = label-left ∙ q ∙ sym label-right
 
   module _ (e : systemOf left .label s ≡ systemOf right .label t) where
-    then-steps : pairAt ≡ followedBy leftSteps rightSteps
+    then-steps : pairAt ≡ (leftSteps andThen λ z. rightSteps)
     unfolding pairVerdict
-    then-steps = ap (λ (b : Bool). followedBy (verdictIf b (labelsAnswer s t)) (followedBy leftSteps rightSteps)) (eq-eqb (systemOf left .label s) (systemOf right .label t) e)
+    then-steps = ap (λ (b : Bool). passIf b (labelsAnswer s t) andThen λ z. leftSteps andThen λ z. rightSteps) (eq-eqb (systemOf left .label s) (systemOf right .label t) e)
 
     pub left-refused : {a : Answer} → leftSteps ≡ refusedWith a → Stopped a ≡ asExamined pairAt
-    left-refused q = sym (ap asExamined (then-steps ∙ ap (λ (x : Verdict). followedBy x rightSteps) q))
+    left-refused q = sym (ap asExamined (then-steps ∙ ap (λ (x : Verdict (Unit {0})). x andThen λ z. rightSteps) q))
 
-    pub right-decides : {x : Verdict} → leftSteps ≡ accepted → rightSteps ≡ x → asExamined x ≡ asExamined pairAt
-    right-decides p q = sym (ap asExamined (then-steps ∙ ap₂ followedBy p q))
+    pub right-decides : {x : Verdict (Unit {0})} → leftSteps ≡ passed → rightSteps ≡ x → asExamined x ≡ asExamined pairAt
+    right-decides p q = sym (ap asExamined (then-steps ∙ then-same p q))

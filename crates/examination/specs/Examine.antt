@@ -1,30 +1,13 @@
--- What the maker examines before it writes (document 01, What is turned away, 16, 17, 22 and 23): the starts, then the judge's checks in the judging
--- order with the maker's own test of a step, then the chains of as many steps as their side has states, left side first.
-use Prim.Native.Nat.{ℕ, zero, suc}
+-- What the maker examines before it writes (document 01, What is turned away, 16, 17, 22 and 23): the starts, then the checks in the judging order with the
+-- maker's own test of a step, then the chains of as many steps as their side has states, left side first.
+use Prim.Native.Nat.{ℕ}
 use mathlib.Core.Bool.{Bool, cond, _&&_, _||_}
-use mathlib.Core.List.{List, [], _∷_, map}
 use lib.Dec.{leb, eqb}
 use Rattle.bisimulation.specs.Systems.{View, flip}
 use Rattle.bisimulation.specs.Maker.{matched, chainLength}
-use Rattle.obligations.specs.CheckAnswers.{startsAnswer, labelsAnswer, stepAnswer, chainAnswer}
-use Rattle.obligations.specs.Judging.{Check, labelsOf, leftStep, rightStep, checks, Result, passes, stops, Verdict, accepted, refusedWith, andThen}
-
--- ---- verdicts
-
--- A verdict, and the next one where it is an acceptance.
-abbrev pub followedBy : Verdict → Verdict → Verdict
-followedBy accepted next = next
-followedBy (refusedWith answer) next = refusedWith answer
-
--- The first of the results that stops, or none.
-unfoldable pub firstStop : List Result → Verdict
-firstStop [] = accepted
-firstStop (x ∷ xs) = andThen x (firstStop xs)
-
--- The first refusal at the indices below the bound, or none.
-unfoldable pub firstOf : ℕ → (ℕ → Verdict) → Verdict
-firstOf zero f = accepted
-firstOf (suc n) f = followedBy (f 0) (firstOf n (λ i. f (suc i)))
+use Rattle.answers.specs.Verdicts.{Verdict, refusedWith, _andThen_, passed, passIf, firstOf, firstIn}
+use Rattle.obligations.specs.CheckAnswers.{labelsAnswer, stepAnswer, chainAnswer}
+use Rattle.obligations.specs.Judging.{Check, labelsOf, leftStep, rightStep, checks, startsVerdict}
 
 -- ---- 17 and 22
 
@@ -32,14 +15,15 @@ firstOf (suc n) f = followedBy (f 0) (firstOf n (λ i. f (suc i)))
 unfoldable pub answered : View → ℕ → ℕ → Bool
 answered v j t = matched v j t || v .own .silent j && v .related (v .own .to j) t
 
--- What becomes of a check, by a test of the left steps at a right state and a test of the right steps at a left state.
-unfoldable pub resultBy : View → (ℕ → ℕ → Bool) → (ℕ → ℕ → Bool) → Check → Result
-resultBy v left right (labelsOf s t) = cond (eqb (v .own .label s) (v .other .label t)) passes (stops (labelsAnswer s t))
-resultBy v left right (leftStep s t j) = cond (left j t) passes (stops (stepAnswer 22 0 s t j))
-resultBy v left right (rightStep s t j) = cond (right j s) passes (stops (stepAnswer 22 1 s t j))
+-- The verdict on a check, by a test of the left steps at a right state and a test of the right steps at a left state.
+unfoldable pub verdictBy : View → (ℕ → ℕ → Bool) → (ℕ → ℕ → Bool) → Check → Verdict (Unit {0})
+verdictBy v left right (labelsOf s t) = passIf (eqb (v .own .label s) (v .other .label t)) (labelsAnswer s t)
+verdictBy v left right (leftStep s t j) = passIf (left j t) (stepAnswer 22 0 s t j)
+verdictBy v left right (rightStep s t j) = passIf (right j s) (stepAnswer 22 1 s t j)
 
-unfoldable pub makerResult : View → Check → Result
-makerResult v = resultBy v (answered v) (answered (flip v))
+-- The maker's verdict on a check.
+unfoldable pub makerVerdict : View → Check → Verdict (Unit {0})
+makerVerdict v = verdictBy v (answered v) (answered (flip v))
 
 -- ---- 23
 
@@ -48,20 +32,17 @@ unfoldable pub endlessAt : View → ℕ → ℕ → Bool
 endlessAt v b c = v .related c b && leb (v .own .states) (chainLength v b (v .own .states) c)
 
 -- The first chain that the test finds: the smallest b below m, then the smallest c below n. Side is 0 left, 1 right.
-unfoldable pub firstChain : ℕ → ℕ → ℕ → (ℕ → ℕ → Bool) → Verdict
-firstChain side m n long = firstOf m (λ b. firstOf n (λ c. cond (long b c) (refusedWith (chainAnswer side b c)) accepted))
+unfoldable pub firstChain : ℕ → ℕ → ℕ → (ℕ → ℕ → Bool) → Verdict (Unit {0})
+firstChain side m n long = firstOf m (λ b. firstOf n (λ c. cond (long b c) (refusedWith (chainAnswer side b c)) passed))
 
-unfoldable pub endless : View → ℕ → Verdict
+unfoldable pub endless : View → ℕ → Verdict (Unit {0})
 endless v side = firstChain side (v .other .states) (v .own .states) (endlessAt v)
 
 -- ---- all of it
 
--- 16.
-unfoldable pub startsVerdict : View → ℕ → ℕ → Verdict
-startsVerdict v start start′ = cond (v .related start start′) accepted (refusedWith (startsAnswer start start′))
-
-unfoldable pub examined : View → ℕ → ℕ → Verdict
+unfoldable pub examined : View → ℕ → ℕ → Verdict (Unit {0})
 examined v start start′ =
-    followedBy (startsVerdict v start start′)
-    (followedBy (firstStop (map (makerResult v) (checks v)))
-    (followedBy (endless v 0) (endless (flip v) 1)))
+    startsVerdict v start start′ andThen λ x.
+    firstIn (makerVerdict v) (checks v) andThen λ y.
+    endless v 0 andThen λ z.
+    endless (flip v) 1

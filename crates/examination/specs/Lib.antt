@@ -1,3 +1,4 @@
 -- The maker's examination, and how it is read off the tables.
 pub mod Examine
+pub mod ExaminationCauses
 pub mod Walk

@@ -1,7 +1,7 @@
 // The maker's examination of a relation: the starts, the pairs with their labels and steps, and the chains.
+use answers::Answer;
 use lists::byte;
 use relations::word;
-use tables::Answer;
 use tables::from;
 use tables::label;
 use tables::labels;

@@ -11,18 +11,21 @@ use Rattle.lists.specs.Lists.{tabulate, grid, putFront}
 use Rattle.lists.specs.Numbers.{byteAt, bigEndian, bigBytes}
 use Rattle.lists.proofs.FillLaws.{length-grid, getD-grid, put-front-fits, part-length}
 use Rattle.bisimulation.specs.Systems.{Ranks, Bytes}
-use Rattle.table_reader.specs.Conditions.{NoneApplies, MagicFits}
+use Rattle.answers.specs.Numbers.{sixNumbers}
+use Rattle.answers.specs.Causes.{NoCause}
+use Rattle.table_reader.specs.TableCauses.{MagicFits}
+use Rattle.answers.proofs.CauseLaws.{none-below}
 use Rattle.certificates.specs.declared.Sizes.{Sizes}
 use Rattle.certificate_reader.specs.declared.CertificateRead.the-variants as read
 use Rattle.certificates.specs.Layout.{certificateLength, rowsAt, alAt, arAt, clAt, crAt, rowsPart}
 use Rattle.certificate_reader.specs.CertificateReading.{readCertificate}
-use Rattle.certificate_reader.specs.CertificateConditions.{certificateCauses}
-use Rattle.certificate_reader.specs.CertificateConditions as conditions
+use Rattle.certificate_reader.specs.CertificateCauses.{certificateCauses}
+use Rattle.certificate_reader.specs.CertificateCauses as conditions
 use Rattle.certificates.specs.CertificateModel.{AreBytes, ranksOf}
 use Rattle.certificates.proofs.LayoutLaws.{runs-follow, al-inside, ar-inside, cl-inside, cr-inside}
 use Rattle.certificates.proofs.ModelLaws.{rows-byte}
 use Rattle.certificate_reader.proofs.CertificateLaws.{NoWideRow}
-use Rattle.certificate_reader.proofs.CertificateConditionLaws.{certificate-none-good}
+use Rattle.certificate_reader.proofs.CertificateCauseLaws.{certificate-none-good}
 use Rattle.files.specs.File.{certificateHeader, certificateFile, certificateIn}
 
 -- ---- lists that are put together
@@ -211,19 +214,29 @@ module _ (z : Sizes) (rows : List ℕ) (r : Ranks) (full : length rows ≡ 8 * z
   -- with its own sizes, where no row has a bit n2 or more
   pub file-good : NoWideRow rows (z .n1) (z .n2) → readCertificate z (certificateFile z rows r) ≡ read.Good z
   unfolding certificateLength
-  file-good narrow = certificate-none-good z (certificateFile z rows r) none
+  file-good narrow = certificate-none-good 2 z (certificateFile z rows r) none
     where
       long : length (certificateFile z rows r) ≡ certificateLength z
       long = file-length z rows r full
 
-      none : NoneApplies (certificateCauses z (certificateFile z rows r))
-      none zero h = omega (arith, long)
-      none (suc zero) h = h file-magic
-      none (suc (suc zero)) h = h file-version
-      none (suc (suc (suc zero))) h = h file-sizes
-      none (suc (suc (suc (suc zero)))) h = h long
-      none (suc (suc (suc (suc (suc zero))))) h = narrow (h .0) (h .1) (rw (file-rows z rows r full) at (h .2))
-      none (suc (suc (suc (suc (suc (suc i)))))) h = h
+      none : NoCause (certificateCauses 2 z (certificateFile z rows r))
+      none = (
+        λ h. omega (arith, long),
+        (
+          λ h. h file-magic,
+          (
+            λ h. h file-version,
+            (
+              λ h. h file-sizes,
+              (
+                λ h. h long,
+                none-below (z .n1)
+                    (conditions.HasWideBit (rowsPart (certificateFile z rows r) z) (z .n2)) (sixNumbers 15 2) (λ s l h. narrow s l (rw (file-rows z rows r full) at h)),
+              ),
+            ),
+          ),
+        ),
+      )
 
   pub good-in-file : NoWideRow rows (z .n1) (z .n2) → (c : List ℕ) → certificateIn z c ≡ certificateFile z rows r
       → readCertificate z (certificateIn z c) ≡ read.Good z

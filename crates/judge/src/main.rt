@@ -1,46 +1,41 @@
 // The program: reads the two tables and the certificate from standard input, judges, and prints the six numbers.
-use tables::Answer;
+use answers::Answer;
 ghost use mathlib.Core.Path.{_≡_};
-ghost use Prim.Native.Nat.{_+_, _≤_};
+ghost use mathlib.Core.List.{List};
+ghost use Prim.Native.Nat.{ℕ, _≤_};
 ghost use lib.ListN.{length, take};
-ghost use Rattle.pieces.specs.Pieces.{pieceOf, missingOf, Reading};
+ghost use Rattle.pieces.specs.Pieces.{pieceOf, ReadCall, ReadOut};
 ghost use Rattle.checker.specs.Judge.{judgeAnswer};
 
 // The most bytes that three pieces and their lengths have: 3 times 2 + 65,535.
 const MOST: usize = 196611;
 
-// Reads once, after the first n bytes of the input, at most as many bytes as are missing, and answers how many came.
-fn read_more(input: &mut [u8], n: usize) -> usize
-    requires { ⌜ n ≤ length (now input) ⌝ }
-    ensures fits { λ r. ⌜ n + r ≤ length (now (input .exit)) ⌝ }
-    ensures asked { λ r. ⌜ r ≤ missingOf (take n (now (input .entry))) ⌝ }
-    ensures kept { λ r. ⌜ take n (now (input .exit)) ≡ take n (now (input .entry)) ⌝ }
+// The one call of `read`, on standard input; answers what it answered.
+fn read_once(places: &mut [u8]) -> isize
+    ensures { λ r. ⌜ ReadCall (length (now (places .entry))) r (now (places .exit)) ⌝ }
 {
-    let missing = pieces::missing(&input[..n]);
-    if missing == 0 {
-        return 0;
-    }
-    if input.len() - n < missing {
-        return 0;
-    }
-    let end = n + missing;
-    let part = &mut input[n..end];
-    let got = libc::read(0, part);
-    io::count(got, part)
+    libc::read(0, places)
 }
 
 // Reads until the three pieces are there or the input ends, never past the third piece, and answers how many bytes came.
 fn read_input(input: &mut [u8]) -> usize
+    requires { ⌜ 196611 ≤ length (now input) ⌝ }
     ensures fits { λ r. ⌜ r ≤ length (now (input .exit)) ⌝ }
-    ensures read { λ r. ⌜ Reading (take r (now (input .exit))) ⌝ }
+    ensures read { λ r. ⌜ ReadOut (take r (now (input .exit))) ⌝ }
 {
     let mut n: usize = 0;
     loop {
-        let more = read_more(input, n);
-        if more == 0 {
+        let missing = pieces::missing(&input[..n]);
+        if missing == 0 {
             return n;
         }
-        n += more;
+        let end = n + missing;
+        let part = &mut input[n..end];
+        let got = read_once(part);
+        if got <= 0 {
+            return n;
+        }
+        n += got as usize;
     }
 }
 
@@ -52,6 +47,15 @@ fn answer_of(input: &[u8]) -> Answer
     let right = pieces::piece(input, 1);
     let certificate = pieces::piece(input, 2);
     checker::judge(left, right, certificate)
+}
+
+// Reads the input until it is whole or ends, and judges its three pieces.
+fn judge_input() -> Answer
+    ensures { λ r. ⌜ ((s : List ℕ) × ReadOut s × (r ≡ judgeAnswer (pieceOf s 0) (pieceOf s 1) (pieceOf s 2))) ⌝ }
+{
+    let mut input = [0u8; MOST];
+    let n = read_input(&mut input);
+    answer_of(&input[..n])
 }
 
 // Prints a number and what follows it.
@@ -71,7 +75,5 @@ fn print_answer(answer: Answer) {
 }
 
 fn main() {
-    let mut input = [0u8; MOST];
-    let n = read_input(&mut input);
-    print_answer(answer_of(&input[..n]));
+    print_answer(judge_input());
 }

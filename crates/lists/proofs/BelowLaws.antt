@@ -9,7 +9,7 @@ use native.Mathlib.Numerals.{add-one}
 use native.Mathlib.Omega.{arith}
 use native.Mathlib.Decide.{decLt}
 use lib.Dec.{T}
-use Rattle.lists.specs.Below.{anyBelow, allBelow, firstBelow, IsFirstBelow, sumBelow, countBelow, mostBelow}
+use Rattle.lists.specs.Below.{anyBelow, allBelow, firstBelow, sumBelow, countBelow, mostBelow}
 use Rattle.lists.proofs.BoolLaws.{and-l, and-r, and-i, or-e, or-l, or-r, T-dec, T-true, true-T, false-not-T, cond-true}
 
 -- ---- some
@@ -112,10 +112,6 @@ first-at n f i l h = first-passes n f (omega (arith, first-le n f i l h))
 -- none before it passes
 pub first-least : (n : ℕ) (f : ℕ → Bool) (i : ℕ) → i < firstBelow n f → T (f i) → ⊥
 first-least n f i l h = omega (arith, first-bound n f, first-le n f i (omega (arith, first-bound n f)) h)
-
--- below the bound, it is the first that passes
-pub first-found-below : (n : ℕ) (f : ℕ → Bool) → firstBelow n f < n → IsFirstBelow n (λ i. T (f i)) (firstBelow n f)
-first-found-below n f h = (h, first-passes n f h, first-least n f)
 
 -- it is the index that passes with none before it
 pub first-is : (n : ℕ) (f : ℕ → Bool) (i : ℕ) → i < n → T (f i) → ((k : ℕ) → k < i → T (f k) → ⊥) → firstBelow n f ≡ i

@@ -3,3 +3,4 @@ pub mod BoolLaws
 pub mod BelowLaws
 pub mod NumberLaws
 pub mod FillLaws
+pub mod JoinLaws

@@ -1,5 +1,5 @@
 -- Bounded searches: tests and numbers over the indices below a bound. One family serves the theory, the readers, the judge and the maker.
-use Prim.Native.Nat.{ℕ, zero, suc, _+_, max, _<_}
+use Prim.Native.Nat.{ℕ, zero, suc, _+_, max}
 use mathlib.Core.Bool.{Bool, true, false, _&&_, _||_, cond}
 
 -- Some index below the bound passes the test.
@@ -16,10 +16,6 @@ allBelow (suc n) f = f 0 && allBelow n (λ i. f (suc i))
 unfoldable pub firstBelow : ℕ → (ℕ → Bool) → ℕ
 firstBelow zero f = 0
 firstBelow (suc n) f = cond (f 0) 0 (suc (firstBelow n (λ i. f (suc i))))
-
--- Index k is the first below the bound that has the property.
-abbrev pub IsFirstBelow : ℕ → (ℕ → Type 0) → ℕ → Type 0
-IsFirstBelow n P k = (k < n) × P k × ((i : ℕ) → i < k → P i → ⊥)
 
 -- The sum of the numbers at the indices below the bound.
 unfoldable pub sumBelow : ℕ → (ℕ → ℕ) → ℕ

@@ -1,14 +1,26 @@
--- Lists: what holds of every element, lists filled by index, parts, and a front written over a list.
+-- Lists: what holds of every element and of how many, lists joined and filled by index, parts, and a front written over a list.
 use Prim.Native.Nat.{ℕ, zero, suc, _-_}
+use mathlib.Core.Path.{_≡_}
+use mathlib.Core.Logic.{_⊎_}
 use mathlib.Core.Bool.{cond}
 use mathlib.Core.List.{List, [], _∷_, _++_}
 use lib.Dec.{leb}
 use lib.ListN.{length, take, drop}
 
 -- Every element of the list has the property.
-abbrev pub All : {A : Type 0} → (A → Type 0) → List A → Type 0
+abbrev pub All {ℓ} : {A : Type ℓ} → (A → Type 0) → List A → Type 0
 All P [] = Unit {0}
 All P (x ∷ l) = P x × All P l
+
+-- n elements of the list have the property.
+abbrev pub Counts : {A : Type 0} → (A → Type 0) → List A → ℕ → Type 0
+Counts P [] n = n ≡ 0
+Counts P (x ∷ xs) n = (P x × ((m : ℕ) × (n ≡ suc m) × Counts P xs m)) ⊎ ((¬ P x) × Counts P xs n)
+
+-- The lists of the indices below the bound, one after the other.
+unfoldable pub joinBelow {ℓ} : {A : Type ℓ} → ℕ → (ℕ → List A) → List A
+joinBelow zero f = []
+joinBelow (suc n) f = f 0 ++ joinBelow n (λ i. f (suc i))
 
 -- The list f 0, f 1, .., f (n - 1).
 unfoldable pub tabulate : ℕ → (ℕ → ℕ) → List ℕ

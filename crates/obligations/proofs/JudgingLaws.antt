@@ -1,69 +1,29 @@
--- Laws of the judging order: the judge's verdict over the checks in order is an acceptance exactly where the theory's judge accepts all labels and
--- obligations, and where it is a refusal it names the first check that stops, every one before it having gone on. Assumes nothing.
-use Prim.Native.Nat.{ℕ, zero, suc, _+_, _<_, suc-le-suc, zero-le}
-use mathlib.Core.Path.{_≡_, refl, sym, ap, _∙_, subst}
-use mathlib.Core.Logic.{_↔_}
-use mathlib.Core.Bool.{Bool, true, false, cond}
-use mathlib.Core.List.{List, [], _∷_, _++_, map}
-use native.Mathlib.Nat.{not-suc-le-zero, le-of-suc-le-suc}
-use native.Mathlib.Omega.{arith}
+-- Laws of the judging order: what holds of all checks, that the judge's verdict on a check is decided by its causes, and where no check has a cause that
+-- applies. Assumes nothing.
+use Prim.Native.Nat.{ℕ, _<_}
+use mathlib.Core.Path.{_≡_, refl, sym, subst}
+use mathlib.Core.Logic.{_↔_, inl, inr, ⊎-elim}
+use mathlib.Core.Bool.{Bool, true, false, _||_}
+use mathlib.Core.List.{[], _∷_, map, flatMap}
 use lib.Dec.{T, eqb, eqb→eq}
 use Rattle.lists.specs.Lists.{All}
 use Rattle.lists.proofs.BoolLaws.{eq→eqb}
-use Rattle.tables.specs.declared.Answer.{Answer}
-use Rattle.bisimulation.specs.Systems.{System, View, Ranks, WellFormed, flip, swap}
-use Rattle.bisimulation.specs.Judge.{isMet, labelsEqual, obligationsMet}
-use Rattle.bisimulation.proofs.ClauseLaws.{flip-formed, pairs-e, pairs-i, steps-e, steps-i, labels-e, labels-i}
-use Rattle.obligations.specs.Obligation.{obligationAt}
-use Rattle.obligations.specs.CheckAnswers.{labelsAnswer}
-use Rattle.obligations.specs.Judging.{joinBelow, stepsFrom, Check, labelsOf, leftStep, rightStep, pairChecks, checks, Result, passes, metBy, stops, stepResult, result, accepted, refusedWith, andThen, verdict, isBy, countBy, isObligation, countObligations}
-use Rattle.obligations.specs.declared.Clause.{Clause}
-use Rattle.obligations.specs.declared.Clause.the-variants.{Answer as Answered, Stutter as Stuttered, Match as Matched}
-use Rattle.obligations.specs.declared.Outcome.{Outcome}
-use Rattle.obligations.specs.declared.Outcome.the-variants.{Met, Failed}
-use Rattle.obligations.proofs.ObligationLaws.{met-iff}
+use Rattle.lists.proofs.JoinLaws.{all-append, append-all, all-join, join-all, all-when, when-all, all-map, map-all, all-flat, flat-all}
+use Rattle.answers.specs.Causes.{NoCause, Numbered, Allows}
+use Rattle.answers.specs.Verdicts.{goOn, refusedWith}
+use Rattle.answers.proofs.DecideLaws.{Decides, decides-as, decides-stable, test-decides, eqb-decides, not-decides, and-decides, or-decides, any-decides}
+use Rattle.answers.proofs.VerdictLaws.{Decided, Anything, decided-none, decided-as, decided-unless}
+use Rattle.bisimulation.specs.Systems.{System, View, Ranks, WellFormed, flip, swap, LabelsEqual}
+use Rattle.bisimulation.specs.Clauses.{Meets2a, Meets2b, Meets2c, Meets, EveryObligation}
+use Rattle.bisimulation.specs.Judge.{is2a, is2b, is2c}
+use Rattle.bisimulation.specs.Triples.{ahead}
+use Rattle.bisimulation.proofs.ClauseLaws.{is2a-e, is2a-i, is2b-e, is2b-i, is2c-e, is2c-i}
+use Rattle.obligations.specs.Obligation.{outcomeOf, isApart, obligationAt}
+use Rattle.obligations.specs.CheckAnswers.{startsAnswer, labelsAnswer}
+use Rattle.obligations.specs.Judging.{stepsFrom, Check, labelsOf, leftStep, rightStep, pairChecks, checks, startsVerdict, Finding, nothing, metBy, stepVerdict, checkVerdict, isObligation}
+use Rattle.obligations.specs.CheckCauses.{startsCauses, Apart, unmetCauses, MetFirstBy, checkCauses, CheckMetBy}
 
--- ---- what holds of all elements of joined lists
-
-module _ {A : Type 0} (P : A → Type 0) where
-  pub all-append : (xs ys : List A) → All P xs → All P ys → All P (xs ++ ys)
-  all-append [] ys a b = b
-  all-append (x ∷ xs) ys a b = (a .0, all-append xs ys (a .1) b)
-
-  append-left : (xs ys : List A) → All P (xs ++ ys) → All P xs
-  append-left [] ys a = tt
-  append-left (x ∷ xs) ys a = (a .0, append-left xs ys (a .1))
-
-  append-right : (xs ys : List A) → All P (xs ++ ys) → All P ys
-  append-right [] ys a = a
-  append-right (x ∷ xs) ys a = append-right xs ys (a .1)
-
-  pub all-join : (n : ℕ) (f : ℕ → List A) → ((i : ℕ) → i < n → All P (f i)) → All P (joinBelow n f)
-  unfolding joinBelow
-  all-join zero f h = tt
-  all-join (suc n) f h = all-append (f 0) _ (h 0 (suc-le-suc zero-le)) (all-join n (λ i. f (suc i)) (λ i l. h (suc i) (suc-le-suc l)))
-
-  pub join-all : (n : ℕ) (f : ℕ → List A) → All P (joinBelow n f) → (i : ℕ) → i < n → All P (f i)
-  unfolding joinBelow
-  join-all zero f h i l = absurd (not-suc-le-zero l)
-  join-all (suc n) f h zero l = append-left (f 0) _ h
-  join-all (suc n) f h (suc i) l = join-all n (λ k. f (suc k)) (append-right (f 0) _ h) i (le-of-suc-le-suc l)
-
-  pub all-when : (b : Bool) (xs : List A) → (T b → All P xs) → All P (cond b xs [])
-  all-when true xs h = h tt
-  all-when false xs h = tt
-
-  when-all : (b : Bool) (xs : List A) → All P (cond b xs []) → T b → All P xs
-  when-all true xs h t = h
-  when-all false xs h t = absurd t
-
-pub all-map : {A B : Type 0} (P : B → Type 0) (f : A → B) (xs : List A) → All (λ x. P (f x)) xs → All P (map f xs)
-all-map P f [] a = tt
-all-map P f (x ∷ xs) a = (a .0, all-map P f xs (a .1))
-
-map-all : {A B : Type 0} (P : B → Type 0) (f : A → B) (xs : List A) → All P (map f xs) → All (λ x. P (f x)) xs
-map-all P f [] a = tt
-map-all P f (x ∷ xs) a = (a .0, map-all P f xs (a .1))
+-- ---- what holds of all checks
 
 -- the steps from s
 module _ (S : System) (s : ℕ) (P : ℕ → Type 0) where
@@ -75,160 +35,144 @@ module _ (S : System) (s : ℕ) (P : ℕ → Type 0) where
   unfolding stepsFrom
   all-steps h j l e = when-all P (eqb (S .from j) s) (j ∷ []) (join-all P (S .steps) _ h j l) (eq→eqb _ _ e) .0
 
--- ---- the verdict
+-- P holds of the labels of every related pair, and of every step of either side at each.
+pub record OfChecks (v : View) (P : Check → Type 0) : Type 0 where
+  pub labels : (s t : ℕ) → T (v .related s t) → P (labelsOf s t)
+  pub left : (s t : ℕ) → T (v .related s t) → (j : ℕ) → j < v .own .steps → v .own .from j ≡ s → P (leftStep s t j)
+  pub right : (s t : ℕ) → T (v .related s t) → (j : ℕ) → j < v .other .steps → v .other .from j ≡ t → P (rightStep s t j)
 
--- The check does not stop the judge.
-abbrev pub goes : Result → Bool
-goes passes = true
-goes (metBy clause) = true
-goes (stops answer) = false
-
-module _ (v : View) (r : Ranks) where
-  abbrev pub Goes : Check → Type 0
-  Goes c = T (goes (result v r c))
-
-  pub verdict-i : (cs : List Check) → All Goes cs → verdict v r cs ≡ accepted
-  unfolding verdict
-  verdict-i [] a = refl
-  verdict-i (c ∷ cs) a = go (result v r c) (a .0) (verdict-i cs (a .1))
-    where
-      go : (x : Result) → T (goes x) → verdict v r cs ≡ accepted → andThen x (verdict v r cs) ≡ accepted
-      go passes t e = e
-      go (metBy clause) t e = e
-      go (stops answer) t e = absurd t
-
-  pub verdict-e : (cs : List Check) → verdict v r cs ≡ accepted → All Goes cs
-  unfolding verdict
-  verdict-e [] e = tt
-  verdict-e (c ∷ cs) e = go (result v r c) e (λ q. verdict-e cs q)
-    where
-      go : (x : Result) → andThen x (verdict v r cs) ≡ accepted → (verdict v r cs ≡ accepted → All Goes cs) → T (goes x) × All Goes cs
-      go passes e rest = (tt, rest e)
-      go (metBy clause) e rest = (tt, rest e)
-      go (stops answer) e rest = absurd (let z : _≡_ {A = ℕ} 0 1 = cc e in omega arith)
-
--- a step's check goes on exactly where its obligation is met
-pub step-i : (v : View) (r : Ranks) (j t side a b c : ℕ) → T (isMet v r j t) → T (goes (stepResult side a b c (obligationAt v r j t)))
-step-i v r j t side a b c h = let q = met-iff v r j t .0 h in rw (q .1) tt
-
-pub step-e : (v : View) (r : Ranks) (j t side a b c : ℕ) → T (goes (stepResult side a b c (obligationAt v r j t))) → T (isMet v r j t)
-step-e v r j t side a b c h = met-iff v r j t .1 (go (obligationAt v r j t) h)
-  where
-    go : (o : Outcome) → T (goes (stepResult side a b c o)) → (k : Clause) × (o ≡ Met k)
-    go (Met k) h = (k, refl)
-    go (Failed e) h = absurd h
-
--- the labels' check goes on exactly where they are equal
-pub label-i : (v : View) (r : Ranks) (s t : ℕ) → v .own .label s ≡ v .other .label t → Goes v r (labelsOf s t)
-unfolding result
-label-i v r s t e = go (eqb (v .own .label s) (v .other .label t)) (eq→eqb _ _ e)
-  where
-    go : (b : Bool) → T b → T (goes (cond b passes (stops (labelsAnswer s t))))
-    go true h = tt
-    go false h = absurd h
-
-pub label-e : (v : View) (r : Ranks) (s t : ℕ) → Goes v r (labelsOf s t) → v .own .label s ≡ v .other .label t
-unfolding result
-label-e v r s t h = eqb→eq _ _ (go (eqb (v .own .label s) (v .other .label t)) h)
-  where
-    go : (b : Bool) → T (goes (cond b passes (stops (labelsAnswer s t)))) → T b
-    go true h = tt
-    go false h = absurd h
-
--- ---- all checks go on exactly where the labels are equal and the obligations of both sides are met
-
-module _ (v : View) (w : WellFormed v) (r : Ranks) where
-  open View v using (own, other, related)
-
-  -- the steps of a related pair whose side is met
-  left-go : T (obligationsMet v r) → (s t : ℕ) → T (related s t) → All (Goes v r) (map (leftStep s t) (stepsFrom own s))
-  unfolding result obligationsMet
-  left-go a s t h =
-      all-map (Goes v r) (leftStep s t) (stepsFrom own s) (steps-all own s _ λ j l e. step-i v r j t 0 s t j (steps-e v s _ (pairs-e v w _ a s t h) j l e))
-
-  right-go : T (obligationsMet (flip v) (swap r)) → (s t : ℕ) → T (related s t) → All (Goes v r) (map (rightStep s t) (stepsFrom other t))
-  unfolding result obligationsMet
-  right-go b s t h =
-      all-map (Goes v r) (rightStep s t) (stepsFrom other t)
-      (steps-all other t _ λ k l e. step-i (flip v) (swap r) k s 1 s t k (steps-e (flip v) t _ (pairs-e (flip v) (flip-formed v w) _ b t s h) k l e))
-
-  checks-i : T (labelsEqual v) → T (obligationsMet v r) → T (obligationsMet (flip v) (swap r)) → All (Goes v r) (checks v)
+module _ (v : View) (P : Check → Type 0) where
+  pub checks-all : OfChecks v P → All P (checks v)
   unfolding checks pairChecks
-  checks-i l a b =
-      all-join (Goes v r) _ _ λ s ls. all-join (Goes v r) _ _ λ t lt. all-when (Goes v r) (related s t) _ λ h. (
-        label-i v r s t (labels-e v w l s t h),
-        all-append (Goes v r) (map (leftStep s t) (stepsFrom own s)) (map (rightStep s t) (stepsFrom other t)) (left-go a s t h) (right-go b s t h),
+  checks-all o =
+      all-join P _ _ λ s ls. all-join P _ _ λ t lt. all-when P (v .related s t) _ λ h. (
+        o .labels s t h,
+        all-append P (map (leftStep s t) (stepsFrom (v .own) s)) _
+            (all-map P (leftStep s t) (stepsFrom (v .own) s) (steps-all (v .own) s _ (o .left s t h)))
+            (all-map P (rightStep s t) (stepsFrom (v .other) t) (steps-all (v .other) t _ (o .right s t h))),
       )
 
-  -- the checks of a related pair
-  pair-goes : All (Goes v r) (checks v) → (s t : ℕ) → T (related s t) → All (Goes v r) (pairChecks v s t)
-  unfolding checks
-  pair-goes g s t h = when-all (Goes v r) (related s t) (pairChecks v s t) (join-all (Goes v r) _ _ (join-all (Goes v r) _ _ g s (w .here .related< s t h)) t (w .there .related< t s h)) h
+  module _ (w : WellFormed v) (a : All P (checks v)) where
+    pair-all : (s t : ℕ) → T (v .related s t) → All P (pairChecks v s t)
+    unfolding checks
+    pair-all s t h = when-all P (v .related s t) (pairChecks v s t) (join-all P _ _ (join-all P _ _ a s (w .here .related< s t h)) t (w .there .related< t s h)) h
 
-  checks-e : All (Goes v r) (checks v) → T (labelsEqual v) × T (obligationsMet v r) × T (obligationsMet (flip v) (swap r))
-  unfolding pairChecks result obligationsMet
-  checks-e g = (
-    labels-i v (λ s t h. label-e v r s t (pair-goes g s t h .0)),
-    pairs-i v _ (λ s t h. steps-i v s _ (λ j l e. step-e v r j t 0 s t j
-        (all-steps own s _ (map-all (Goes v r) (leftStep s t) (stepsFrom own s) (append-left (Goes v r) (map (leftStep s t) (stepsFrom own s)) _ (pair-goes g s t h .1))) j l e))),
-    pairs-i (flip v) _ (λ t s h. steps-i (flip v) t _ (λ k l e. step-e (flip v) (swap r) k s 1 s t k
-        (all-steps other t _ (map-all (Goes v r) (rightStep s t) (stepsFrom other t) (append-right (Goes v r) (map (leftStep s t) (stepsFrom own s)) _ (pair-goes g s t h .1))) k l e))),
-  )
+    pair-steps : (s t : ℕ) → T (v .related s t) → All P (map (leftStep s t) (stepsFrom (v .own) s)) × All P (map (rightStep s t) (stepsFrom (v .other) t))
+    unfolding pairChecks
+    pair-steps s t h = append-all P (map (leftStep s t) (stepsFrom (v .own) s)) _ (pair-all s t h .1)
 
-  -- the verdict over the checks in judging order is an acceptance exactly where labels are equal and the obligations of both sides are met
-  pub verdict-iff : (verdict v r (checks v) ≡ accepted) ↔ (T (labelsEqual v) × T (obligationsMet v r) × T (obligationsMet (flip v) (swap r)))
-  verdict-iff = (λ e. checks-e (verdict-e v r (checks v) e), λ p. verdict-i v r (checks v) (checks-i (p .0) (p .1) (p .2)))
+    pub all-checks : OfChecks v P
+    unfolding pairChecks
+    all-checks =
+        record {
+          labels = λ s t h. pair-all s t h .0;
+          left = λ s t h. all-steps (v .own) s _ (map-all P (leftStep s t) (stepsFrom (v .own) s) (pair-steps s t h .0));
+          right = λ s t h. all-steps (v .other) t _ (map-all P (rightStep s t) (stepsFrom (v .other) t) (pair-steps s t h .1));
+        }
 
--- ---- a refusal names the first check that stops
+-- ---- the starts
 
--- The check c of the list stops the judge with the answer, and every one before it goes on.
-pub record FirstStop (v : View) (r : Ranks) (cs : List Check) (answer : Answer) : Type 0 where
-  pub before : List Check
-  pub here : Check
-  pub after : List Check
-  pub order : cs ≡ before ++ here ∷ after
-  pub go-on : All (Goes v r) before
-  pub stopped : result v r here ≡ stops answer
+pub starts-decided : (v : View) (start start′ : ℕ) → Decided Anything (startsCauses v start start′) (startsVerdict v start start′)
+unfolding startsVerdict
+starts-decided v start start′ =
+    decided-unless (λ x. x) (v .related start start′) (refusedWith (startsAnswer start start′)) (goOn tt) (not-decides (test-decides (v .related start start′))) refl (decided-none tt)
 
-pub refused-first-stop : (v : View) (r : Ranks) (cs : List Check) (answer : Answer) → verdict v r cs ≡ refusedWith answer → FirstStop v r cs answer
-unfolding verdict
-refused-first-stop v r [] answer e = absurd (let z : _≡_ {A = ℕ} 0 1 = cc e in omega arith)
-refused-first-stop v r (c ∷ cs) answer e = go (result v r c) refl e (λ q. refused-first-stop v r cs answer q)
-  where
-    later : T (goes (result v r c)) → FirstStop v r cs answer → FirstStop v r (c ∷ cs) answer
-    later t f = record { before = c ∷ f .before; here = f .here; after = f .after; order = ap (λ (l : List Check). c ∷ l) (f .order); go-on = (t, f .go-on); stopped = f .stopped }
+-- ---- one check
 
-    go : (x : Result) → result v r c ≡ x → andThen x (verdict v r cs) ≡ refusedWith answer → (verdict v r cs ≡ refusedWith answer → FirstStop v r cs answer) → FirstStop v r (c ∷ cs) answer
-    go passes p e rest = later (subst (λ (y : Result). T (goes y)) (sym p) tt) (rest e)
-    go (metBy clause) p e rest = later (subst (λ (y : Result). T (goes y)) (sym p) tt) (rest e)
-    go (stops other) p e rest = record { before = []; here = c; after = cs; order = refl; go-on = tt; stopped = p ∙ ap stops (cc e) }
+apart-decides : (v : View) (j t : ℕ) → Decides (isApart v j t) (Apart v j t)
+unfolding isApart ahead
+apart-decides v j t =
+    decides-as
+    (and-decides (not-decides (and-decides (test-decides (v .own .silent j)) (test-decides (v .related (v .own .to j) t))))
+    (not-decides (any-decides (v .other .steps) (λ k. and-decides (and-decides (eqb-decides (v .other .from k) t) (test-decides (v .other .silent k))) (test-decides (v .related (v .own .from j) (v .other .to k)))))))
+    (λ p. (p .0, λ k l e q h. p .1 (k, l, ((e, q), h)))) (λ p. (p .0, λ q. p .1 (q .0) (q .1) (q .2 .0 .0) (q .2 .0 .1) (q .2 .1)))
 
--- ---- the counts
+step-decides : (v : View) (j t : ℕ) → Decides (is2a v j t) (Meets2a v j t)
+step-decides v j t = record { sound = is2a-e v j t; complete = is2a-i v j t }
 
--- a step's check that goes on is met by one clause
-step-counts : (v : View) (r : Ranks) (j t side a b c : ℕ) → let x = stepResult side a b c (obligationAt v r j t) in T (goes x)
-    → isBy Answered x + (isBy Stuttered x + isBy Matched x) ≡ 1
-step-counts v r j t side a b c h = go (obligationAt v r j t) h
-  where
-    go : (o : Outcome) → let x = stepResult side a b c o in T (goes x) → isBy Answered x + (isBy Stuttered x + isBy Matched x) ≡ 1
-    go (Met Answered) h = refl
-    go (Met Stuttered) h = refl
-    go (Met Matched) h = refl
-    go (Failed e) h = absurd h
+stutter-decides : (v : View) (r : Ranks) (j t : ℕ) → Decides (is2b v r j t) (Meets2b v r j t)
+stutter-decides v r j t = record { sound = is2b-e v r j t; complete = is2b-i v r j t }
+
+match-decides : (v : View) (r : Ranks) (j t : ℕ) → Decides (is2c v r j t) (Meets2c v r j t)
+match-decides v r j t = record { sound = is2c-e v r j t; complete = is2c-i v r j t }
+
+-- What a check that goes on has found: the clause by which it is met, or nothing where it is no obligation.
+abbrev pub Found : View → Ranks → Check → Finding → Type 0
+Found v r c nothing = isObligation c ≡ 0
+Found v r c (metBy clause) = CheckMetBy v r clause c
+
+-- the clause of an outcome that is met
+abbrev FirstBy : View → Ranks → ℕ → ℕ → Finding → Type 0
+FirstBy v r j t nothing = ⊥
+FirstBy v r j t (metBy clause) = MetFirstBy v r j t clause
+
+module _ (v : View) (r : Ranks) (j t side left right : ℕ) where
+  outcome-decided : (a b c d : Bool) → Decides a (Meets2a v j t) → Decides b (Meets2b v r j t) → Decides c (Meets2c v r j t) → Decides d (Apart v j t)
+      → Decided (FirstBy v r j t) (unmetCauses v r j t side left right) (stepVerdict side left right j (outcomeOf a b c d))
+  unfolding outcomeOf
+  outcome-decided true b c d p q s x = record { by = (p .sound tt, (λ n. n .0 (inl (p .sound tt)), (λ n. n (inl (p .sound tt)), tt))) }
+  outcome-decided false true c d p q s x = record { by = ((p .complete, q .sound tt), (λ n. n .0 (inr (inl (q .sound tt))), (λ n. n (inr (inl (q .sound tt))), tt))) }
+  outcome-decided false false true d p q s x =
+      record { by = ((p .complete, q .complete, s .sound tt), (λ n. n .0 (inr (inr (s .sound tt))), (λ n. n (inr (inr (s .sound tt))), tt))) }
+  outcome-decided false false false true p q s x = record { by = inl ((⊎-elim (p .complete) (⊎-elim (q .complete) (s .complete)), x .sound tt), refl) }
+  outcome-decided false false false false p q s x =
+      record { by = inr (λ n. x .complete (n .1), inl (⊎-elim (p .complete) (⊎-elim (q .complete) (s .complete)), refl)) }
+
+  step-decided : Decided (FirstBy v r j t) (unmetCauses v r j t side left right) (stepVerdict side left right j (obligationAt v r j t))
+  unfolding obligationAt
+  step-decided =
+      outcome-decided (is2a v j t) (is2b v r j t) (is2c v r j t) (isApart v j t) (step-decides v j t) (stutter-decides v r j t) (match-decides v r j t) (apart-decides v j t)
 
 module _ (v : View) (r : Ranks) where
-  check-counts : (c : Check) → Goes v r c → isBy Answered (result v r c) + (isBy Stuttered (result v r c) + isBy Matched (result v r c)) ≡ isObligation c
-  unfolding result
-  check-counts (labelsOf s t) h = go (eqb (v .own .label s) (v .other .label t)) h
+  -- the judge's verdict on a check is decided by its causes
+  pub check-decided : (c : Check) → Decided (Found v r c) (checkCauses v r c) (checkVerdict v r c)
+  unfolding checkVerdict
+  check-decided (labelsOf s t) =
+      decided-unless (λ x. x) (eqb (v .own .label s) (v .other .label t)) (refusedWith (labelsAnswer s t)) (goOn nothing)
+      (not-decides (eqb-decides (v .own .label s) (v .other .label t))) refl (decided-none refl)
+  check-decided (leftStep s t j) = decided-as (stepVerdict 0 s t j (obligationAt v r j t)) go (step-decided v r j t 0 s t)
     where
-      go : (b : Bool) → let x = cond b passes (stops (labelsAnswer s t)) in T (goes x) → isBy Answered x + (isBy Stuttered x + isBy Matched x) ≡ 0
-      go true h = refl
-      go false h = absurd h
-  check-counts (leftStep s t j) h = step-counts v r j t 0 s t j h
-  check-counts (rightStep s t j) h = step-counts (flip v) (swap r) j s 1 s t j h
+      go : (x : Finding) → FirstBy v r j t x → Found v r (leftStep s t j) x
+      go nothing p = absurd p
+      go (metBy clause) p = p
+  check-decided (rightStep s t j) = decided-as (stepVerdict 1 s t j (obligationAt (flip v) (swap r) j s)) go (step-decided (flip v) (swap r) j s 1 s t)
+    where
+      go : (x : Finding) → FirstBy (flip v) (swap r) j s x → Found v r (rightStep s t j) x
+      go nothing p = absurd p
+      go (metBy clause) p = p
 
-  -- where every check goes on, the obligations met by the three clauses are all obligations
-  pub counts-sum : (cs : List Check) → All (Goes v r) cs → countBy v r Answered cs + (countBy v r Stuttered cs + countBy v r Matched cs) ≡ countObligations cs
-  unfolding countBy countObligations
-  counts-sum [] a = refl
-  counts-sum (c ∷ cs) a = omega (arith, check-counts c (a .0), counts-sum cs (a .1))
+-- ---- no check has a cause that applies exactly where labels are equal and the obligations of both sides are met
+
+meets-decides : (v : View) (r : Ranks) (j t : ℕ) → Decides (is2a v j t || (is2b v r j t || is2c v r j t)) (Meets v r j t)
+meets-decides v r j t = or-decides (step-decides v j t) (or-decides (stutter-decides v r j t) (match-decides v r j t))
+
+module _ (v : View) (w : WellFormed v) (r : Ranks) where
+  pub none-iff : NoCause (flatMap (checkCauses v r) (checks v)) ↔ (LabelsEqual v × EveryObligation Meets v r × EveryObligation Meets (flip v) (swap r))
+  none-iff = (onward, back)
+    where
+      None : Check → Type 0
+      None c = NoCause (checkCauses v r c)
+
+      onward : NoCause (flatMap (checkCauses v r) (checks v)) → LabelsEqual v × EveryObligation Meets v r × EveryObligation Meets (flip v) (swap r)
+      onward n =
+          let o = all-checks v None w (flat-all (λ c. ¬ c .condition) (checkCauses v r) (checks v) n) in (
+            λ s t h. decides-stable (eqb-decides (v .own .label s) (v .other .label t)) (o .labels s t h .0),
+            λ j t l h. decides-stable (meets-decides v r j t) (o .left (v .own .from j) t h j l refl .1 .0),
+            λ j s l h. decides-stable (meets-decides (flip v) (swap r) j s) (o .right s (v .other .from j) h j l refl .1 .0),
+          )
+
+      back : LabelsEqual v × EveryObligation Meets v r × EveryObligation Meets (flip v) (swap r) → NoCause (flatMap (checkCauses v r) (checks v))
+      back p =
+          all-flat (λ c. ¬ c .condition) (checkCauses v r) (checks v)
+          (checks-all v None (record {
+            labels = λ s t h. (λ n. n (p .0 s t h), tt);
+            left = λ s t h j l e. let m = p .1 j t l (subst (λ (x : ℕ). T (v .related x t)) (sym e) h) in (λ n. n .0 m, (λ n. n m, tt));
+            right = λ s t h j l e. let m = p .2 j s l (subst (λ (x : ℕ). T (v .related s x)) (sym e) h) in (λ n. n .0 m, (λ n. n m, tt));
+          }))
+
+-- ---- the numbers are 17 to 19, with the file 2
+
+pub check-numbers : (f : ℕ → ℕ → Bool) → Allows f 2 (17 ∷ 18 ∷ 19 ∷ []) → (v : View) (r : Ranks) (c : Check) → Numbered f (checkCauses v r c)
+check-numbers f (h17, (h18, (h19, h))) v r (labelsOf s t) = (h17, tt)
+check-numbers f (h17, (h18, (h19, h))) v r (leftStep s t j) = (h18, (h19, tt))
+check-numbers f (h17, (h18, (h19, h))) v r (rightStep s t j) = (h18, (h19, tt))

@@ -1,8 +1,7 @@
 -- Laws of one obligation on words: the walk that finds the smallest falling state, and that the words give the theory's outcome. Assumes nothing.
 use Prim.Native.Nat.{ℕ, _^_, _≤_, _<_}
-use mathlib.Core.Path.{_≡_, refl, sym, ap, ap₂, _∙_, subst}
-use mathlib.Core.Logic.{_↔_}
-use mathlib.Core.Bool.{Bool, true, false, not, _&&_, _||_, and-false, cond}
+use mathlib.Core.Path.{_≡_, sym, ap, ap₂, _∙_, subst}
+use mathlib.Core.Bool.{Bool, true, false, not, _&&_, and-false}
 use mathlib.Core.List.{List}
 use native.Mathlib.Omega.{arith}
 use native.Mathlib.Decide.{ℕ-discrete}
@@ -15,16 +14,13 @@ use Rattle.lists.proofs.BoolLaws.{and-l, and-r, and-i, eq→eqb, same-T}
 use Rattle.lists.proofs.BelowLaws as below
 use Rattle.words.specs.Bits.{hasBit, firstBit, removeBit, countBits}
 use Rattle.words.proofs.BitLaws as bits
-use Rattle.obligations.specs.declared.Clause.the-variants.{Answer, Stutter, Match}
-use Rattle.obligations.specs.declared.Cause.the-variants.{Apart, Rank}
+use Rattle.obligations.specs.declared.Clause.the-variants.{Step, Stutter, Match}
+use Rattle.obligations.specs.declared.Failure.the-variants.{Apart, Rank}
 use Rattle.obligations.specs.declared.Outcome.the-variants.{Met, Failed}
 use Rattle.bisimulation.specs.Systems.{View, Ranks}
-use Rattle.bisimulation.specs.Judge.{is2a, is2b, is2c, isMet}
+use Rattle.bisimulation.specs.Judge.{is2a, is2b, is2c}
 use Rattle.bisimulation.specs.Triples.{ahead}
 use Rattle.bisimulation.proofs.ClauseLaws.{is2a-e, is2a-i, is2c-e, is2c-i}
-use Rattle.obligations.specs.declared.Clause.{Clause}
-use Rattle.obligations.specs.declared.Cause.{Cause}
-use Rattle.obligations.specs.declared.Outcome.{Outcome}
 use Rattle.obligations.specs.declared.Facing.{Facing}
 use Rattle.obligations.specs.Obligation.{firstFalling, outcomeOf, staysAt, isApart, obligationAt, obligationOf, Faces, Ranked}
 
@@ -62,9 +58,9 @@ walk-shorter word w h = omega (arith, bits.count-remove word (firstBit word) w (
 -- ---- the first that holds
 
 module _ (a b c d : Bool) where
-  pub outcome-answer : a ≡ true → outcomeOf a b c d ≡ Met Answer
+  pub outcome-step : a ≡ true → outcomeOf a b c d ≡ Met Step
   unfolding outcomeOf
-  outcome-answer p = rw p
+  outcome-step p = rw p
 
   module _ (p : a ≡ false) where
     pub outcome-stutter : b ≡ true → outcomeOf a b c d ≡ Met Stutter
@@ -190,20 +186,3 @@ module _ (v : View) (r : Ranks) (j t : ℕ) (f : Facing) (faces : Faces v j t f)
     pub obligation-is : obligationOf f t before after ranks ≡ obligationAt v r j t
     unfolding obligationOf obligationAt isApart
     obligation-is = rw (answer-is, stutter-is, match-is, stays-is, ahead-is)
-
--- ---- the theory's outcome in words
-
--- the outcome is met exactly where the theory finds the obligation met
-pub met-iff : (v : View) (r : Ranks) (j t : ℕ) → T (isMet v r j t) ↔ ((k : Clause) × (obligationAt v r j t ≡ Met k))
-unfolding isMet obligationAt outcomeOf
-met-iff v r j t = go (is2a v j t) (is2b v r j t) (is2c v r j t) (isApart v j t)
-  where
-    no : {k : Clause} {e : Cause} → _≡_ {A = Outcome} (Failed e) (Met k) → ⊥
-    no q = let z : _≡_ {A = ℕ} 0 1 = cc q in omega arith
-
-    go : (a b c d : Bool) → T (a || b || c) ↔ ((k : Clause) × (cond a (Met Answer) (cond b (Met Stutter) (cond c (Met Match) (cond d (Failed Apart) (Failed Rank)))) ≡ Met k))
-    go true b c d = (λ h. (Answer, refl), λ h. tt)
-    go false true c d = (λ h. (Stutter, refl), λ h. tt)
-    go false false true d = (λ h. (Match, refl), λ h. tt)
-    go false false false true = (λ h. absurd h, λ h. no (h .1))
-    go false false false false = (λ h. absurd h, λ h. no (h .1))

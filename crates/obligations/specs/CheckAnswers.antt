@@ -1,6 +1,6 @@
 -- The six numbers of what is refused after the files are read (document 01, What is turned away): the file is 2, and side is 0 left, 1 right.
 use Prim.Native.Nat.{ℕ}
-use Rattle.tables.specs.declared.Answer.{Answer}
+use Rattle.answers.specs.declared.Answer.{Answer}
 
 -- 16: the starts.
 abbrev pub startsAnswer : ℕ → ℕ → Answer

@@ -1,3 +1,4 @@
 pub mod Obligation
 pub mod CheckAnswers
 pub mod Judging
+pub mod CheckCauses

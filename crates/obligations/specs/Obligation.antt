@@ -12,27 +12,27 @@ use Rattle.bisimulation.specs.Systems.{View, Ranks}
 use Rattle.bisimulation.specs.Judge.{is2a, is2b, is2c}
 use Rattle.bisimulation.specs.Triples.{ahead}
 use Rattle.obligations.specs.declared.Clause.{Clause}
-use Rattle.obligations.specs.declared.Clause.the-variants.{Answer, Stutter, Match}
-use Rattle.obligations.specs.declared.Cause.{Cause}
-use Rattle.obligations.specs.declared.Cause.the-variants.{Apart, Rank}
+use Rattle.obligations.specs.declared.Clause.the-variants.{Step, Stutter, Match}
+use Rattle.obligations.specs.declared.Failure.{Failure}
+use Rattle.obligations.specs.declared.Failure.the-variants.{Apart, Rank}
 use Rattle.obligations.specs.declared.Outcome.{Outcome}
 use Rattle.obligations.specs.declared.Outcome.the-variants.{Met, Failed}
 use Rattle.obligations.specs.declared.Facing.{Facing}
 
 -- The clauses are printed as 1, 2 and 3.
 abbrev pub clauseNumber : Clause → ℕ
-clauseNumber Answer = 1
+clauseNumber Step = 1
 clauseNumber Stutter = 2
 clauseNumber Match = 3
 
--- The causes are 18 and 19.
-abbrev pub causeNumber : Cause → ℕ
-causeNumber Apart = 18
-causeNumber Rank = 19
+-- The failures are 18 and 19.
+abbrev pub failureNumber : Failure → ℕ
+failureNumber Apart = 18
+failureNumber Rank = 19
 
 -- It is met by the first of 2a, 2b and 2c that holds; else it failed, with 18 where the two are apart and 19 otherwise.
 unfoldable pub outcomeOf : Bool → Bool → Bool → Bool → Outcome
-outcomeOf a b c apart = cond a (Met Answer) (cond b (Met Stutter) (cond c (Met Match) (cond apart (Failed Apart) (Failed Rank))))
+outcomeOf a b c apart = cond a (Met Step) (cond b (Met Stutter) (cond c (Met Match) (cond apart (Failed Apart) (Failed Rank))))
 
 -- Where 18 fits: u, t unrelated (or the step not silent), and no silent step from t to a state related to s.
 unfoldable pub isApart : View → ℕ → ℕ → Bool

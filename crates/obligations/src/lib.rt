@@ -7,17 +7,17 @@ ghost use lib.Bits.{bitAnd};
 ghost use lib.Dec.{ltb};
 ghost use mathlib.Core.Bool.{_&&_};
 ghost use Rattle.words.specs.Bits.{firstBit};
-ghost use Rattle.obligations.specs.Obligation.{firstFalling, staysAt, obligationOf, clauseNumber, causeNumber};
+ghost use Rattle.obligations.specs.Obligation.{firstFalling, staysAt, obligationOf, clauseNumber, failureNumber};
 
 // The clause that meets an obligation: 2a, 2b or 2c.
 pub enum Clause {
-    Answer,
+    Step,
     Stutter,
     Match,
 }
 
-// Why an obligation fails: 18 or 19.
-pub enum Cause {
+// Why an obligation fails, document 01's cause: 18 or 19.
+pub enum Failure {
     Apart,
     Rank,
 }
@@ -25,7 +25,7 @@ pub enum Cause {
 // The outcome of an obligation.
 pub enum Outcome {
     Met(Clause),
-    Failed(Cause),
+    Failed(Failure),
 }
 
 // What an obligation looks at.
@@ -47,22 +47,22 @@ impl Clause {
     {
         let clause = self;
         match clause {
-            Clause::Answer => 1,
+            Clause::Step => 1,
             Clause::Stutter => 2,
             Clause::Match => 3,
         }
     }
 }
 
-impl Cause {
-    // The cause's number: 18 or 19.
+impl Failure {
+    // The failure's number: 18 or 19.
     pub fn number(self) -> usize
-        ensures { λ r. ⌜ r ≡ causeNumber self ⌝ }
+        ensures { λ r. ⌜ r ≡ failureNumber self ⌝ }
     {
-        let cause = self;
-        match cause {
-            Cause::Apart => 18,
-            Cause::Rank => 19,
+        let failure = self;
+        match failure {
+            Failure::Apart => 18,
+            Failure::Rank => 19,
         }
     }
 }
@@ -114,13 +114,13 @@ fn stutters(facing: Facing, t: usize, before: usize, after: usize) -> bool
     false
 }
 
-// The outcome: the first of 2a, 2b and 2c that holds, else the cause. `before` and `after` are the A ranks of (s, t) and of (u, t), and `ranks`
+// The outcome: the first of 2a, 2b and 2c that holds, else the failure. `before` and `after` are the A ranks of (s, t) and of (u, t), and `ranks`
 // has the C ranks of this step at each state of the other side.
 pub fn obligation(facing: Facing, t: usize, before: usize, after: usize, ranks: &[u8]) -> Outcome
     ensures { λ r. ⌜ r ≡ obligationOf facing t before after (now (ranks .entry)) ⌝ }
 {
     if answering_state(facing) < 64 {
-        return Outcome::Met(Clause::Answer);
+        return Outcome::Met(Clause::Step);
     }
     if stutters(facing, t, before, after) {
         return Outcome::Met(Clause::Stutter);
@@ -131,10 +131,10 @@ pub fn obligation(facing: Facing, t: usize, before: usize, after: usize, ranks: 
         return Outcome::Met(Clause::Match);
     }
     if stays(facing, t) {
-        return Outcome::Failed(Cause::Rank);
+        return Outcome::Failed(Failure::Rank);
     }
     if ahead.first() < 64 {
-        return Outcome::Failed(Cause::Rank);
+        return Outcome::Failed(Failure::Rank);
     }
-    Outcome::Failed(Cause::Apart)
+    Outcome::Failed(Failure::Apart)
 }

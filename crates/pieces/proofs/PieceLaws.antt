@@ -3,19 +3,26 @@
 -- whole, so nothing that follows changes them. Assumes nothing.
 use Prim.Native.Nat.{ℕ, zero, suc, _+_, _*_, _-_, _≤_, _<_, zero-le}
 use mathlib.Core.Path.{_≡_, refl, ap, ap₂, _∙_}
+use mathlib.Core.Bool.{false, true≢false}
 use mathlib.Core.List.{List, [], _++_, append-assoc}
 use native.Mathlib.Decide.{decLt}
 use native.Mathlib.Nat.{le-refl, zero-add, add-assoc}
 use native.Mathlib.Numerals.{add-one}
 use native.Mathlib.Omega.{arith}
+use lib.Dec.{T}
+use lib.IntN.{ℤ, pos, negsuc, natAbs}
 use lib.ListN.{length, take, drop, length-append, length-drop, List·getD-append}
-use lib.Seq.{length-take-le, take-add, take-append-le, drop-append-le, take-at, drop-at, getD-append-add, drop-append-add}
+use lib.Seq.{length-take-le, take-append-add, take-append-le, drop-append-le, take-at, drop-at, getD-append-add, drop-append-add}
+use lib.Signed.{leZ, nonNeg}
+use borrow.Author.Tests.{leb-false}
 use Rattle.lists.specs.Lists.{part}
 use Rattle.lists.specs.Numbers.{byteAt, bigEndian, bigBytes}
 use Rattle.lists.proofs.FillLaws.{getD-past, part-past, part-rest}
 use Rattle.lists.proofs.NumberLaws.{big-cong, big-lt, length-bytes, bytes-back}
-use Rattle.pieces.specs.Pieces.{lengthAt, pieceStart, pieceEnd, pieceOf, wanted, missingOf, Reading, sent}
+use Rattle.pieces.specs.Pieces.{lengthAt, pieceStart, pieceEnd, pieceOf, wanted, missingOf, ReadCall, Reading, ReadOut, sent}
+use Rattle.pieces.specs.Pieces.ReadCall.{call}
 use Rattle.pieces.specs.Pieces.Reading.{nothing, more}
+use Rattle.pieces.specs.Pieces.ReadOut.{whole, ended}
 
 -- ---- where the lengths begin
 
@@ -110,10 +117,23 @@ pub wanted-grows : (s t : List ℕ) → wanted s ≤ wanted (s ++ t)
 unfolding wanted
 wanted-grows s t = length-at-grows s t 3
 
+-- a call puts at most as many bytes as it is lent places
+call-within : {n k : ℕ} {t : List ℕ} → ReadCall n (pos k) t → k ≤ n
+call-within (call h l) = h
+
+-- after it as many places hold something as were lent
+call-length : {n : ℕ} {r : ℤ} {t : List ℕ} → ReadCall n r t → length t ≡ n
+call-length (call h l) = l
+
 reading-wanted : {s : List ℕ} → Reading s → length s ≤ wanted s
 unfolding missingOf
 reading-wanted nothing = zero-le
-reading-wanted (more s t r h) = let b = wanted-grows s t in let a = reading-wanted r in rw length-append (omega arith)
+reading-wanted (more s t k r a) =
+    let w = call-within a in
+    let e = length-take-le k t (let l = call-length a in omega arith) in
+    let b = wanted-grows s (take k t) in
+    let h = reading-wanted r in
+    rw length-append (omega arith)
 
 -- no byte past the third piece is read, however the input goes on
 pub reading-within : {s : List ℕ} → Reading s → (t : List ℕ) → length s ≤ wanted (s ++ t)
@@ -124,11 +144,28 @@ pub asked-within : {s : List ℕ} → Reading s → (t : List ℕ) → length s 
 unfolding missingOf
 asked-within {s} r t = let b = wanted-grows s t in let a = reading-wanted r in omega arith
 
--- one turn of reading into a list: where the first n elements stay and r more are read, at most as many as are missing, n + r are read
-pub reading-more : (l k : List ℕ) (n r : ℕ) → Reading (take n l) → take n k ≡ take n l → r ≤ missingOf (take n l) → n + r ≤ length k → Reading (take (n + r) k)
-reading-more l k n r w kept asked fits =
-    let e : length (take r (drop n k)) ≡ r = length-take-le r (drop n k) (rw length-drop (omega arith)) in
-    rw (take-add n r k, kept) (more (take n l) (take r (drop n k)) w (omega arith))
+-- a call that answered more than 0 answered how many bytes it put: some, and no more than it was lent places
+pub record Came (n : ℕ) (r : ℤ) (t : List ℕ) : Type 0 where
+  pub call : ReadCall n (pos (natAbs r)) t
+  pub not-negative : T (nonNeg r)
+  pub some : 0 < natAbs r
+  pub within : natAbs r ≤ n
+
+pub call-came : {n : ℕ} {r : ℤ} {t : List ℕ} → ReadCall n r t → leZ r (pos 0) ≡ false → Came n r t
+call-came {r = pos k} a e = record { call = a; not-negative = tt; some = leb-false k 0 e; within = call-within a }
+call-came {r = negsuc k} a e = absurd (true≢false e)
+
+-- one call of `read`: what it put follows what had been read, in a list where both have their places
+pub reading-more : {s t : List ℕ} {r : ℕ} (n : ℕ) (later : List ℕ) → length s ≡ n → Reading s → ReadCall (missingOf s) (pos r) t → Reading (take (n + r) (s ++ (t ++ later)))
+reading-more {s} {t} {r} n later e w a =
+    let h = call-within a in
+    let l = call-length a in
+    rw (← e, take-append-add, take-append-le r t later (omega arith)) (more s t r w a)
+
+-- where reading stops, what was read is what has been read call by call, so all that is said of a `Reading` holds of it
+pub read-out-reading : {s : List ℕ} → ReadOut s → Reading s
+read-out-reading (whole r h) = r
+read-out-reading (ended r t w a h) = w
 
 -- where nothing is missing any more, what was read is what the three pieces ask for, no more and no less, however the input goes on
 pub reading-done : {s : List ℕ} → Reading s → missingOf s ≡ 0 → (t : List ℕ) → wanted (s ++ t) ≡ length s

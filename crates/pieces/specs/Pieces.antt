@@ -1,7 +1,11 @@
 -- The program's standard input (document 01, Program): three pieces, left, right and certificate, each after a two-byte length.
-use Prim.Native.Nat.{ℕ, zero, suc, _+_, _-_, _≤_}
+use Prim.Native.Nat.{ℕ, zero, suc, _+_, _-_}
 use mathlib.Core.List.{List, [], _++_}
-use lib.ListN.{length}
+use mathlib.Core.Path.{_≡_}
+use lib.IntN.{ℤ, pos}
+use lib.ListN.{length, take}
+use lib.Signed.{_≤ℤ_}
+use Rattle.libc.specs.Io.{Moved}
 use Rattle.lists.specs.Lists.{part}
 use Rattle.lists.specs.Numbers.{bigEndian, bigBytes}
 
@@ -29,10 +33,21 @@ wanted s = lengthAt s 3
 unfoldable pub missingOf : List ℕ → ℕ
 missingOf s = wanted s - length s
 
--- What may have been read: nothing, or such bytes and then at most as many as were missing.
+-- A call of `read` that was lent n places answered r, and then the places held t: r is -1, or how many bytes it put. No contract can name a call, so this
+-- is only what the contract of `read` says of every call; the proof of the function whose body is the call, `judge::read_once`, is the one that makes it.
+pub data ReadCall (n : ℕ) (r : ℤ) (t : List ℕ) : Type 0 where
+  call : Moved n r → length t ≡ n → ReadCall n r t
+
+-- What has been read: nothing, or such bytes and then those that a call put, lent as many places as bytes were missing.
 pub data Reading : List ℕ → Type 0 where
   nothing : Reading []
-  more : (s t : List ℕ) → Reading s → length t ≤ missingOf s → Reading (s ++ t)
+  more : (s t : List ℕ) (k : ℕ) → Reading s → ReadCall (missingOf s) (pos k) t → Reading (s ++ take k t)
+
+-- What has been read where reading stops: the three pieces are there; or a call, lent as many places as bytes are missing, answered 0, which is the
+-- end of the input, or -1, a failure, which is taken for the end.
+pub data ReadOut (s : List ℕ) : Type 0 where
+  whole : Reading s → missingOf s ≡ 0 → ReadOut s
+  ended : (r : ℤ) (t : List ℕ) → Reading s → ReadCall (missingOf s) r t → r ≤ℤ pos 0 → ReadOut s
 
 -- A piece as it is sent: its length in two bytes, then its bytes.
 unfoldable pub sent : List ℕ → List ℕ

@@ -1,3 +1,4 @@
 pub mod FileMadeLaws
 pub mod MakeAnswers
 pub mod MakeLaws
+pub mod MakerCauseLaws

@@ -1,1 +1,2 @@
 pub mod Make
+pub mod MakerCauses

@@ -5,70 +5,67 @@ use Prim.Native.Nat.{ℕ}
 use mathlib.Core.Path.{_≡_}
 use mathlib.Core.Bool.{cond}
 use mathlib.Core.List.{List}
-use lib.Dec.{ltb, eqb}
+use lib.Dec.{ltb}
 use lib.ListN.{length}
 use Rattle.lists.specs.Lists.{putFront}
 use Rattle.bisimulation.specs.Maker.{made}
+use Rattle.answers.specs.Numbers.{sixNumbers}
+use Rattle.answers.specs.Verdicts.{Verdict, goOn, refusedWith, _andThen_, passed, answerOf}
+use Rattle.answers.specs.declared.Answer.{Answer}
 use Rattle.tables.specs.Table.{startOf}
-use Rattle.table_reader.specs.TableReading.{readTable}
-use Rattle.tables.specs.Answers.{sixNumbers}
-use Rattle.tables.specs.declared.Answer.{Answer}
 use Rattle.tables.specs.declared.Head.{Head}
+use Rattle.table_reader.specs.TableReading.{readTable}
+use Rattle.table_reader.specs.TableAnswers.{tableVerdict}
 use Rattle.table_reader.specs.declared.TableRead.the-variants as table
 use Rattle.certificates.specs.Layout.{sizesOf, certificateLength}
-use Rattle.certificate_reader.specs.CertificateReading.{readRelation}
-use Rattle.certificate_reader.specs.CertificateAnswers.{relationAnswer}
 use Rattle.certificates.specs.CertificateModel.{viewOf}
 use Rattle.certificates.specs.declared.Sizes.{Sizes}
-use Rattle.certificate_reader.specs.declared.RelationRead.{RelationRead}
-use Rattle.certificate_reader.specs.declared.RelationRead.the-variants as relation
-use Rattle.obligations.specs.Judging.{Verdict, accepted, refusedWith}
+use Rattle.certificate_reader.specs.CertificateReading.{readRelation}
+use Rattle.certificate_reader.specs.CertificateAnswers.{relationVerdict}
+use Rattle.certificate_reader.specs.declared.RelationRead.the-variants as drawn
 use Rattle.files.specs.File.{certificateFile}
-use Rattle.table_reader.specs.TableAnswers.{tableThen}
 use Rattle.examination.specs.Examine.{examined}
 
--- The refusal of a relation, or what follows where it is good.
-abbrev pub relationThen : RelationRead → Answer → Answer
-relationThen (relation.Good sizes) rest = rest
-relationThen (relation.Refused r) rest = relationAnswer r 2
-
--- 21 where the output has fewer than L bytes, or what follows.
-unfoldable pub roomThen : ℕ → ℕ → Answer → Answer
-roomThen L room rest = cond (ltb room L) (sixNumbers 21 3 L) rest
-
--- The refusal of an examination, or what follows where it passed.
-abbrev pub verdictThen : Verdict → Answer → Answer
-verdictThen accepted rest = rest
-verdictThen (refusedWith answer) rest = answer
-
 -- Both tables and the relation are read.
-pub record DrawingRead (left right drawing : List ℕ) : Type 0 where
+pub record InputsRead (left right relation : List ℕ) : Type 0 where
   pub head : Head
   pub head′ : Head
   pub sizes : Sizes
   pub left-good : readTable left ≡ table.Good head
   pub right-good : readTable right ≡ table.Good head′
-  pub drawing-good : readRelation (sizesOf left right) drawing ≡ relation.Good sizes
+  pub relation-good : readRelation (sizesOf left right) relation ≡ drawn.Good sizes
+
+-- 21 where the output has fewer than L bytes.
+unfoldable pub roomVerdict : ℕ → ℕ → Verdict (Unit {0})
+roomVerdict L room = cond (ltb room L) (refusedWith (sixNumbers 21 3 L)) passed
+
+-- The verdict where all is read and there is room, and the verdict on whatever is given.
+unfoldable pub madeVerdict : List ℕ → List ℕ → List ℕ → Verdict (Unit {0})
+madeVerdict left right relation = examined (viewOf left right relation) (startOf left) (startOf right)
+
+unfoldable pub makeVerdict : List ℕ → List ℕ → List ℕ → List ℕ → Verdict (Unit {0})
+makeVerdict left right relation output =
+    tableVerdict 0 (readTable left) andThen λ head.
+    tableVerdict 1 (readTable right) andThen λ head′.
+    relationVerdict 2 (readRelation (sizesOf left right) relation) andThen λ sizes.
+    roomVerdict (certificateLength (sizesOf left right)) (length output) andThen λ x.
+    madeVerdict left right relation
 
 -- The file for the relation: its rows, and the maker's ranks.
 unfoldable pub fileFor : List ℕ → List ℕ → List ℕ → List ℕ
-fileFor left right drawing = certificateFile (sizesOf left right) drawing (made (viewOf left right drawing))
+fileFor left right relation = certificateFile (sizesOf left right) relation (made (viewOf left right relation))
 
--- What the examination and the success answer, and what becomes of the output.
-unfoldable pub madeAnswer : List ℕ → List ℕ → List ℕ → Answer
-madeAnswer left right drawing = verdictThen (examined (viewOf left right drawing) (startOf left) (startOf right)) (sixNumbers 0 0 (certificateLength (sizesOf left right)))
+-- The answer after a verdict: the refusal's, or 0, 0, L.
+abbrev pub answerAfter : List ℕ → List ℕ → Verdict (Unit {0}) → Answer
+answerAfter left right = answerOf (λ x. sixNumbers 0 0 (certificateLength (sizesOf left right)))
+
+-- The output after a verdict: with the file at its front, or as it was where it is a refusal.
+abbrev pub outputAfter : Verdict (Unit {0}) → List ℕ → List ℕ → List ℕ
+outputAfter (goOn x) file output = putFront file output
+outputAfter (refusedWith answer) file output = output
 
 unfoldable pub makeAnswer : List ℕ → List ℕ → List ℕ → List ℕ → Answer
-makeAnswer left right drawing output =
-    tableThen (readTable left) 0
-    (tableThen (readTable right) 1
-    (relationThen (readRelation (sizesOf left right) drawing)
-    (roomThen (certificateLength (sizesOf left right)) (length output)
-    (madeAnswer left right drawing))))
-
--- The output after an answer: with the file at its front where that is a success, and as it was otherwise.
-unfoldable pub outputAfter : Answer → List ℕ → List ℕ → List ℕ
-outputAfter answer file output = cond (eqb (answer .code) 0) (putFront file output) output
+makeAnswer left right relation output = answerAfter left right (makeVerdict left right relation output)
 
 unfoldable pub makeOutput : List ℕ → List ℕ → List ℕ → List ℕ → List ℕ
-makeOutput left right drawing output = outputAfter (makeAnswer left right drawing output) (fileFor left right drawing) output
+makeOutput left right relation output = outputAfter (makeVerdict left right relation output) (fileFor left right relation) output

@@ -1,4 +1,5 @@
 // The maker: for any byte strings and any output its six numbers and every byte of the output. It reads, examines, and only then fills.
+use answers::Answer;
 use certificate_reader::RelationRead;
 use certificate_reader::read_relation;
 use certificates::Sizes;
@@ -13,19 +14,19 @@ use relations::row_words;
 use table_reader::TableRead;
 use table_reader::read_table;
 use table_reader::table_answer;
-use tables::Answer;
 use tables::steps;
 ghost use mathlib.Core.Path.{_≡_};
 ghost use Prim.Native.Nat.{_≤_};
 ghost use lib.ListN.{length};
 ghost use Rattle.tables.specs.Table.{startOf};
 ghost use Rattle.certificates.specs.Layout.{sizesOf, certificateLength};
-ghost use Rattle.tables.specs.Answers.{blank};
-ghost use Rattle.ranking.specs.Make.{relationThen, DrawingRead, fileFor, madeAnswer, outputAfter, makeAnswer, makeOutput};
+ghost use Rattle.answers.specs.Verdicts.{refusalOf};
+ghost use Rattle.certificate_reader.specs.CertificateAnswers.{relationVerdict};
+ghost use Rattle.ranking.specs.Make.{InputsRead, fileFor, madeVerdict, answerAfter, outputAfter, makeAnswer, makeOutput};
 
 // The answer of a relation's read that is refused; for any other it is blank.
 fn relation_answer(read: RelationRead) -> Answer
-    ensures { λ r. ⌜ r ≡ relationThen read blank ⌝ }
+    ensures { λ r. ⌜ r ≡ refusalOf (relationVerdict 2 read) ⌝ }
 {
     let RelationRead::Refused(refusal) = read else {
         return Answer {
@@ -41,13 +42,19 @@ fn relation_answer(read: RelationRead) -> Answer
 }
 
 // The answer where both tables and the relation are read and the output has room: what the examination refuses, or the file and its length.
-fn make_read(left: &[u8], right: &[u8], drawing: &[u8], starts: Starts, output: &mut [u8]) -> Answer
-    requires { ⌜ DrawingRead (now left) (now right) (now drawing) × (starts .left ≡ startOf (now left)) × (starts .right ≡ startOf (now right)) × (certificateLength (sizesOf (now left) (now right)) ≤ length (now output)) ⌝ }
-    ensures value { λ r. ⌜ r ≡ madeAnswer (now (left .entry)) (now (right .entry)) (now (drawing .entry)) ⌝ }
-    ensures written { λ _. ⌜ now (output .exit) ≡ outputAfter (madeAnswer (now (left .entry)) (now (right .entry)) (now (drawing .entry))) (fileFor (now (left .entry)) (now (right .entry)) (now (drawing .entry))) (now (output .entry)) ⌝ }
+fn make_read(
+    left: &[u8],
+    right: &[u8],
+    relation: &[u8],
+    starts: Starts,
+    output: &mut [u8],
+) -> Answer
+    requires { ⌜ InputsRead (now left) (now right) (now relation) × (starts .left ≡ startOf (now left)) × (starts .right ≡ startOf (now right)) × (certificateLength (sizesOf (now left) (now right)) ≤ length (now output)) ⌝ }
+    ensures value { λ r. ⌜ r ≡ answerAfter (now (left .entry)) (now (right .entry)) (madeVerdict (now (left .entry)) (now (right .entry)) (now (relation .entry))) ⌝ }
+    ensures written { λ _. ⌜ now (output .exit) ≡ outputAfter (madeVerdict (now (left .entry)) (now (right .entry)) (now (relation .entry))) (fileFor (now (left .entry)) (now (right .entry)) (now (relation .entry))) (now (output .entry)) ⌝ }
 {
     let sizes = Sizes::of(left, right);
-    let rows = row_words(drawing, sizes.n1 as usize);
+    let rows = row_words(relation, sizes.n1 as usize);
     let columns = column_words(&rows);
     let ours = steps(left);
     let theirs = steps(right);
@@ -70,7 +77,7 @@ fn make_read(left: &[u8], right: &[u8], drawing: &[u8], starts: Starts, output: 
         Examined::Stopped(answer) => answer,
         Examined::Passed => {
             write_certificate(
-                drawing,
+                relation,
                 sizes,
                 &rows,
                 &chains,

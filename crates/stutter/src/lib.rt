@@ -1,5 +1,5 @@
 // The C interface, as include/stutter.h has it: a slice is a pointer and a length.
-use tables::Answer;
+use answers::Answer;
 ghost use mathlib.Core.Path.{_≡_};
 ghost use Rattle.checker.specs.Judge.{judgeAnswer};
 ghost use Rattle.ranking.specs.Make.{makeAnswer, makeOutput};

@@ -4,7 +4,7 @@ use Prim.Native.Nat.{ℕ, _+_, _*_, _≤_, _<_}
 use mathlib.Core.Path.{_≡_, sym, ap, _∙_, subst}
 use mathlib.Core.Logic.{inl, inr}
 use mathlib.Core.Bool.{Bool, _||_, or-false}
-use mathlib.Core.List.{List}
+use mathlib.Core.List.{List, _++_}
 use native.Mathlib.Omega.{arith}
 use native.Mathlib.Decide.{decLt}
 use lib.Dec.{T, eqb, eqb-refl, eqb→eq}
@@ -19,10 +19,14 @@ use Rattle.tables.specs.declared.Head.{Head}
 use Rattle.table_reader.specs.declared.TableRead.the-variants.{Good}
 use Rattle.tables.specs.Table.{versionOf, statesOf, startOf, stepsOf, initialOf, tableLength, labelsAt, stepsAt, stepsEnd, labelsPart, stepsPart}
 use Rattle.table_reader.specs.TableReading.{readTable}
-use Rattle.table_reader.specs.Conditions.{NoneApplies, tableCauses}
+use Rattle.table_reader.specs.TableCauses.{EndOutside, EqualsEarlier, headerCauses, endCauses, doubledCauses, tableCauses}
+use Rattle.answers.specs.Numbers.{sixNumbers}
+use Rattle.answers.specs.Causes.{NoCause}
+use Rattle.answers.proofs.CauseLaws.{append-none, below-none, none-at}
 use Rattle.tables.specs.Model.{systemOf}
-use Rattle.table_reader.proofs.TestLaws.{decides-stable, eqb-decides, states-decides}
-use Rattle.table_reader.proofs.ConditionLaws.{good-none}
+use Rattle.answers.proofs.DecideLaws.{decides-stable, eqb-decides}
+use Rattle.table_reader.proofs.TestLaws.{states-decides}
+use Rattle.table_reader.proofs.TableCauseLaws.{good-none}
 
 -- ---- the header
 
@@ -40,10 +44,11 @@ pub record HeadOk (s : List ℕ) (h : Head) : Type 0 where
 
 pub table-ok : (s : List ℕ) {h : Head} → readTable s ≡ Good h → HeadOk s h
 table-ok s {h} e =
-    let g = good-none s e in
-    let n = decides-stable (states-decides s) (g .1 4) in
-    let start : statesOf s ≤ startOf s → ⊥ = g .1 5 in
-    let steps : 256 < stepsOf s → ⊥ = g .1 6 in
+    let g = good-none 0 s e in
+    let none = none-at (tableCauses 0 s) (g .1) in
+    let n = decides-stable (states-decides s) (none 3) in
+    let start : statesOf s ≤ startOf s → ⊥ = none 4 in
+    let steps : 256 < stepsOf s → ⊥ = none 5 in
     record {
       version-is = ap (λ (k : Head). k .version) (g .0);
       states-is = ap (λ (k : Head). k .states) (g .0);
@@ -53,7 +58,7 @@ table-ok s {h} e =
       states-le = n .1;
       start-lt = omega arith;
       steps-le = omega arith;
-      long = decides-stable (eqb-decides (length s) (tableLength (statesOf s) (stepsOf s))) (g .1 7);
+      long = decides-stable (eqb-decides (length s) (tableLength (statesOf s) (stepsOf s))) (none 6);
     }
 
 -- ---- the two parts
@@ -82,13 +87,13 @@ pub table-formed : (s : List ℕ) {h : Head} → readTable s ≡ Good h → Tabl
 unfolding systemOf initialOf
 table-formed s {h} e =
     record {
-      from< = λ j l. elim (decLt (systemOf s .from j) (statesOf s)) [ yes p ↦ p | no q ↦ absurd (none 8 (j, l, inl (omega arith))) ];
-      to< = λ j l. elim (decLt (systemOf s .to j) (statesOf s)) [ yes p ↦ p | no q ↦ absurd (none 8 (j, l, inr (omega arith))) ];
+      from< = λ j l. elim (decLt (systemOf s .from j) (statesOf s)) [ yes p ↦ p | no q ↦ absurd (inside j l (inl (omega arith))) ];
+      to< = λ j l. elim (decLt (systemOf s .to j) (statesOf s)) [ yes p ↦ p | no q ↦ absurd (inside j l (inr (omega arith))) ];
       no-twice = λ i j k l p q.
           elim (decLt i j) [
-            | yes a ↦ absurd (none 9 (j, l, (i, a, p, q)))
+            | yes a ↦ absurd (once j l (i, a, p, q))
             | no a ↦ elim (decLt j i) [
-              | yes b ↦ absurd (none 9 (i, k, (j, b, sym p, sym q)))
+              | yes b ↦ absurd (once i k (j, b, sym p, sym q))
               | no b ↦ omega arith
             ]
           ];
@@ -97,8 +102,14 @@ table-formed s {h} e =
       initial-some = rw (one (startOf s)) (eqb-refl (startOf s));
     }
   where
-    none : NoneApplies (tableCauses s)
-    none = good-none s e .1
+    steps-none : NoCause (endCauses 0 s) × NoCause (doubledCauses 0 s)
+    steps-none = append-none (endCauses 0 s) (doubledCauses 0 s) (append-none (headerCauses 0 s) (endCauses 0 s ++ doubledCauses 0 s) (good-none 0 s e .1) .1)
+
+    inside : (j : ℕ) → j < stepsOf s → ¬ EndOutside s j
+    inside = below-none (stepsOf s) (EndOutside s) (sixNumbers 8 0) (steps-none .0)
+
+    once : (j : ℕ) → j < stepsOf s → ¬ EqualsEarlier s j
+    once = below-none (stepsOf s) (EqualsEarlier s) (sixNumbers 9 0) (steps-none .1)
 
     ok : HeadOk s h
     ok = table-ok s e

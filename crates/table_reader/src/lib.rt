@@ -1,7 +1,7 @@
 // The reader of state tables: for every byte string a header, or the one refusal whose condition and place in the order fit.
+use answers::Answer;
 use lists::byte;
 use lists::read_be16;
-use tables::Answer;
 use tables::Head;
 use tables::from;
 use tables::states;
@@ -11,10 +11,10 @@ use tables::to;
 use words::Row;
 ghost use mathlib.Core.Path.{_≡_};
 ghost use Rattle.lists.specs.Below.{firstBelow};
-ghost use Rattle.tables.specs.Answers.{blank};
+ghost use Rattle.answers.specs.Verdicts.{refusalOf};
 ghost use Rattle.tables.specs.Table.{magicFits};
 ghost use Rattle.table_reader.specs.TableReading.{headOf, readSizes, readHeader, readTable, endsOutside, doubled};
-ghost use Rattle.table_reader.specs.TableAnswers.{tableAnswer, tableThen};
+ghost use Rattle.table_reader.specs.TableAnswers.{tableAnswer, tableVerdict};
 
 // Why a table is refused; the last two carry the first such step.
 pub enum TableRefusal {
@@ -196,7 +196,7 @@ pub fn read_table(s: &[u8]) -> TableRead
 
 // The answer of a table's read that is no header; for a header it is blank.
 pub fn table_answer(read: TableRead, file: usize) -> Answer
-    ensures { λ r. ⌜ r ≡ tableThen read file blank ⌝ }
+    ensures { λ r. ⌜ r ≡ refusalOf (tableVerdict file read) ⌝ }
 {
     let TableRead::Refused(refusal) = read else {
         return Answer {

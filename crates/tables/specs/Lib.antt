@@ -1,3 +1,2 @@
 pub mod Table
-pub mod Answers
 pub mod Model

@@ -15,16 +15,6 @@ pub struct Head {
     pub initial: Row,
 }
 
-// The six numbers of an answer: code, file, a, b, c, d.
-pub struct Answer {
-    pub code: usize,
-    pub file: usize,
-    pub a: usize,
-    pub b: usize,
-    pub c: usize,
-    pub d: usize,
-}
-
 impl Head {
     // The bytes of the header.
     pub const BYTES: usize = 9;

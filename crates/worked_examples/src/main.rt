@@ -11,13 +11,13 @@
 // B what the judge says of the certificate that the maker writes, or the maker's refusal;
 // W not six numbers, but an output of one byte more than the certificate, as the maker leaves it, in hexadecimal digits.
 // Before the maker runs, each byte of the output is a5.
+use answers::Answer;
 use certificate_reader::CertificateRead;
 use certificate_reader::RelationRead;
 use certificates::Sizes;
 use lists::byte;
 use lists::part_of;
 use table_reader::TableRead;
-use tables::Answer;
 ghost use Prim.Native.Nat.{_<_, _≤_};
 ghost use lib.ListN.{length};
 

@@ -5,7 +5,7 @@ use denote.Ref.{now}
 use borrow.Author.Tests.{eq-eqb}
 use borrow.Author.Needs.{needs}
 use Rattle.lists.specs.Numbers.{byteAt, bigEndian}
-use Rattle.table_reader.proofs.TestLaws.{decides-false}
+use Rattle.answers.proofs.DecideLaws.{decides-false}
 use Rattle.certificate_reader.specs.CertificateReading.{certificateSizesFit}
 use Rattle.certificate_reader.proofs.CertificateTestLaws.{sizes-decides}
 use Rattle.certificate_reader.proofs.sizes_fit.Statement.{statement}

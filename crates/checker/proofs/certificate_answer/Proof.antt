@@ -1,8 +1,8 @@
 -- `checker::certificate_answer` meets its contract, case by case. Assumes nothing.
 use mathlib.Core.Path.{sym, ap, _∙_}
 use Rattle.certificate_reader.specs.declared.CertificateRead.{CertificateRead}
-use Rattle.checker.specs.Judge.{certificateThen}
-use Rattle.tables.specs.Answers.{blank}
+use Rattle.answers.specs.Verdicts.{refusalOf}
+use Rattle.certificate_reader.specs.CertificateAnswers.{certificateVerdict}
 use borrow.Author.Needs.{needs}
 use Rattle.checker.proofs.certificate_answer.Statement.{statement}
 use Rattle.checker.proofs.certificate_answer.Tie as tie
@@ -14,13 +14,13 @@ enum-told : tie.Need-enum-told
 enum-told c = search needs
 
 returns : tie.Need-returns
-returns c = sym (ap (λ (x : CertificateRead). certificateThen x blank) (c .enum-told .given .1))
+returns c = sym (ap (λ (x : CertificateRead). refusalOf (certificateVerdict 2 x)) (c .enum-told .given .1))
 
 answer-requires : tie.Need-answer-requires
 answer-requires c κs = search needs
 
 returns-2 : tie.Need-returns-2
-returns-2 c = c .answer .ensures ∙ sym (ap (λ (x : CertificateRead). certificateThen x blank) (c .before .before .read .given .1))
+returns-2 c = c .answer .ensures ∙ sym (ap (λ (x : CertificateRead). refusalOf (certificateVerdict 2 x)) (c .before .before .read .given .1))
 
 pub certificate-answer-spec : {M : Type 1} → statement M
 certificate-answer-spec =

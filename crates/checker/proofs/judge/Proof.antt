@@ -1,4 +1,5 @@
 -- `checker::judge` meets its contract: each file is read, and the first that is refused answers. Assumes nothing.
+use Prim.Native.Nat.{ℕ}
 use mathlib.Core.Path.{_≡_, sym, ap, ap₂, _∙_}
 use native.Mathlib.Omega.{arith}
 use denote.Ref.{now}
@@ -7,7 +8,7 @@ use Rattle.certificate_reader.specs.CertificateReading.{readCertificate}
 use Rattle.table_reader.specs.TableReading.{readTable}
 use Rattle.table_reader.specs.declared.TableRead.the-variants as table
 use Rattle.table_reader.proofs.TableLaws.{table-ok, start-first}
-use Rattle.checker.specs.Judge.{AllRead, judgedBytes}
+use Rattle.checker.specs.Judge.{AllRead, judgedBytes, answerAfter}
 use Rattle.checker.proofs.JudgeLaws.{left-refused, right-refused, certificate-refused, all-read}
 use borrow.Author.Needs.{needs}
 use Rattle.checker.proofs.judge.Statement.{statement}
@@ -107,7 +108,7 @@ returns-4 c =
     let a = c .before .before .before .before .before .before .before .before .before .before .before .before .before .before .before .before .before .before .before .before .args in
     let g = all-good (c .before .before .before .before .before) in
     c .judge-read .ensures
-    ∙ ap₂ (judgedBytes (now (a .left)) (now (a .right)) (now (a .certificate))) (c .before .before .first2 .ensures ∙ start-first _ (g .left-good)) (c .before .first3 .ensures ∙ start-first _ (g .right-good))
+    ∙ ap₂ (λ (s t : ℕ). answerAfter (now (a .left)) (now (a .right)) (now (a .certificate)) (judgedBytes (now (a .left)) (now (a .right)) (now (a .certificate)) s t)) (c .before .before .first2 .ensures ∙ start-first _ (g .left-good)) (c .before .first3 .ensures ∙ start-first _ (g .right-good))
     ∙ sym (all-read (now (a .left)) (now (a .right)) (now (a .certificate)) (g .left-good) (g .right-good) (g .certificate-good))
 
 pub judge-spec : {M : Type 1} → statement M

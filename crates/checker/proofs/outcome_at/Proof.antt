@@ -2,7 +2,7 @@
 use mathlib.Core.Path.{ap, _∙_}
 use denote.Ref.{now}
 use Rattle.words.specs.Bits.{firstBit}
-use Rattle.checker.proofs.PlanLaws.{outcome-answered, outcome-is}
+use Rattle.checker.proofs.PlanLaws.{outcome-by-step, outcome-is}
 use borrow.Author.Needs.{needs}
 use Rattle.checker.proofs.outcome_at.Statement.{statement}
 use Rattle.checker.proofs.outcome_at.Tie as tie
@@ -25,7 +25,7 @@ first-requires c κs = search needs
 returns : tie.Need-returns
 returns c =
     let a = c .before .before .before .before .before .before .before .before .args in
-    outcome-answered (now (a .steps)) (now (a .plan)) (a .ahead .0) (now (a .certificate)) (a .run) (a .place) (a .j) (c .before .before .before .before .to .ensures .0) (c .before .first .ensures ∙ ap firstBit (c .before .before .intersect .ensures)) (c .if1 .taken)
+    outcome-by-step (now (a .steps)) (now (a .plan)) (a .ahead .0) (now (a .certificate)) (a .run) (a .place) (a .j) (c .before .before .before .before .to .ensures .0) (c .before .first .ensures ∙ ap firstBit (c .before .before .intersect .ensures)) (c .if1 .taken)
 
 mul-t16-2 : tie.Need-mul-t16-2
 mul-t16-2 c = search needs

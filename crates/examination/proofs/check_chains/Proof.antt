@@ -5,7 +5,7 @@ use native.Mathlib.Nat.{not-suc-le-zero}
 use native.Mathlib.Omega.{arith}
 use borrow.Author.Count.{below-more}
 use denote.Ref.{now}
-use Rattle.obligations.specs.Judging.{accepted}
+use Rattle.answers.specs.Verdicts.{passed}
 use Rattle.examination.specs.Walk.{longBy}
 use Rattle.examination.proofs.RowLaws.{chainsAt, none-found, chain-found, chain-none}
 use borrow.Author.Needs.{needs}
@@ -13,7 +13,7 @@ use Rattle.examination.proofs.check_chains.Statement.{statement}
 use Rattle.examination.proofs.check_chains.Tie as tie
 
 abbrev Inv-loop : tie.InvT-loop
-Inv-loop words chains side m n b₀ b = ((i : ℕ) → i < b → chainsAt side m n (longBy words chains n) i ≡ accepted) × (b ≤ m)
+Inv-loop words chains side m n b₀ b = ((i : ℕ) → i < b → chainsAt side m n (longBy words chains n) i ≡ passed) × (b ≤ m)
 
 abbrev μ-loop : tie.MeasureT-loop
 μ-loop words chains side m n b₀ b = m - b
@@ -40,7 +40,7 @@ loop-again : tie.Need-loop-again Inv-loop μ-loop
 loop-again c =
     let a = c .before .before .before .before .before .before .args in
     let l = c .before .before .before .loop in
-    (below-more (λ (i : ℕ). chainsAt (a .side) (a .m) (a .n) (longBy (now (a .words)) (now (a .chains)) (a .n)) i ≡ accepted) (l .b) (l .inv .0) (none-found (a .side) (a .m) (a .n) (longBy (now (a .words)) (now (a .chains)) (a .n)) (l .b) (c .before .first-long .ensures) (c .if1 .left)), omega arith)
+    (below-more (λ (i : ℕ). chainsAt (a .side) (a .m) (a .n) (longBy (now (a .words)) (now (a .chains)) (a .n)) i ≡ passed) (l .b) (l .inv .0) (none-found (a .side) (a .m) (a .n) (longBy (now (a .words)) (now (a .chains)) (a .n)) (l .b) (c .before .first-long .ensures) (c .if1 .left)), omega arith)
 
 returns-2 : tie.Need-returns-2 Inv-loop μ-loop
 returns-2 c =

@@ -6,15 +6,15 @@ use native.Mathlib.Omega.{arith}
 use borrow.Author.Count.{below-more}
 use denote.Ref.{now}
 use Rattle.tables.specs.Table.{statesOf}
-use Rattle.obligations.specs.Judging.{accepted}
-use Rattle.examination.proofs.VerdictLaws.{was-accepted}
+use Rattle.answers.specs.Verdicts.{passed}
+use Rattle.examination.proofs.VerdictLaws.{was-passed}
 use Rattle.examination.proofs.RowLaws.{rowAt, rows-stop, rows-pass}
 use borrow.Author.Needs.{needs}
 use Rattle.examination.proofs.check_pairs.Statement.{statement}
 use Rattle.examination.proofs.check_pairs.Tie as tie
 
 abbrev Inv-loop : tie.InvT-loop
-Inv-loop left right rows columns distances others n s₀ s = ((i : ℕ) → i < s → rowAt left right rows columns distances others i ≡ accepted) × (s ≤ n) × (n ≡ statesOf left) × (n < 256)
+Inv-loop left right rows columns distances others n s₀ s = ((i : ℕ) → i < s → rowAt left right rows columns distances others i ≡ passed) × (s ≤ n) × (n ≡ statesOf left) × (n < 256)
 
 abbrev μ-loop : tie.MeasureT-loop
 μ-loop left right rows columns distances others n s₀ s = n - s
@@ -51,7 +51,7 @@ loop-again : tie.Need-loop-again Inv-loop μ-loop
 loop-again c =
     let a = c .before .before .before .before .before .before .before .before .before .before .before .before .args in
     let l = c .before .before .before .before .loop in
-    (below-more (λ (i : ℕ). rowAt (now (a .left)) (now (a .right)) (now (a .rows)) (now (a .columns)) (now (a .distances)) (now (a .distances2)) i ≡ accepted) (l .s) (l .inv .0) (was-accepted _ (sym (c .before .before .check-row .ensures) ∙ c .enum-told .given .1)), omega arith, l .inv .2, l .inv .3)
+    (below-more (λ (i : ℕ). rowAt (now (a .left)) (now (a .right)) (now (a .rows)) (now (a .columns)) (now (a .distances)) (now (a .distances2)) i ≡ passed) (l .s) (l .inv .0) (was-passed _ (sym (c .before .before .check-row .ensures) ∙ c .enum-told .given .1)), omega arith, l .inv .2, l .inv .3)
 
 returns-2 : tie.Need-returns-2 Inv-loop μ-loop
 returns-2 c =

@@ -6,7 +6,7 @@ use denote.Ref.{now}
 use lib.ListN.{getD}
 use Rattle.words.specs.Bits.{firstBit}
 use Rattle.tables.specs.Table.{statesOf}
-use Rattle.examination.proofs.VerdictLaws.{was-accepted}
+use Rattle.examination.proofs.VerdictLaws.{was-passed}
 use Rattle.examination.proofs.WalkLaws.{InWord, word-start, next-greater, word-next}
 use Rattle.examination.proofs.PairLaws.{pairAt}
 use Rattle.examination.proofs.RowLaws.{row-stops, row-passes}
@@ -71,7 +71,7 @@ loop-again : tie.Need-loop-again Inv-loop μ-loop
 loop-again c =
     let a = c .before .before .before .before .before .before .before .before .before .before .before .before .before .before .before .before .before .args in
     let l = c .before .before .before .before .before .before .loop in
-    (word-next (pairAt (now (a .left)) (now (a .right)) (now (a .rows)) (now (a .columns)) (now (a .distances)) (now (a .distances2)) (a .s)) (getD (now (a .rows)) (a .s) 0) (l .inv .0) (omega (arith, l .inv .1)) (was-accepted _ (sym (c .before .before .before .before .check-pair .ensures) ∙ c .before .before .enum-told .given .1)) (c .before .remove .ensures) (c .first2 .ensures), l .inv .1)
+    (word-next (pairAt (now (a .left)) (now (a .right)) (now (a .rows)) (now (a .columns)) (now (a .distances)) (now (a .distances2)) (a .s)) (getD (now (a .rows)) (a .s) 0) (l .inv .0) (omega (arith, l .inv .1)) (was-passed _ (sym (c .before .before .before .before .check-pair .ensures) ∙ c .before .before .enum-told .given .1)) (c .before .remove .ensures) (c .first2 .ensures), l .inv .1)
 
 returns-2 : tie.Need-returns-2 Inv-loop μ-loop
 returns-2 c =

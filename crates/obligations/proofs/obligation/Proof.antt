@@ -9,7 +9,7 @@ use borrow.Author.Needs.{needs}
 use borrow.Author.Tests.{lt-ltb, le-ltb}
 use Rattle.words.specs.Bits.{firstBit}
 use Rattle.obligations.specs.Obligation.{firstFalling, staysAt, obligationOf}
-use Rattle.obligations.proofs.ObligationLaws.{outcome-answer, outcome-stutter, outcome-match, outcome-apart, outcome-rank}
+use Rattle.obligations.proofs.ObligationLaws.{outcome-step, outcome-stutter, outcome-match, outcome-apart, outcome-rank}
 use Rattle.obligations.proofs.obligation.Statement.{statement}
 use Rattle.obligations.proofs.obligation.Tie as tie
 
@@ -43,7 +43,7 @@ answering-state-requires c κs = search needs
 
 returns : tie.Need-returns
 unfolding obligationOf
-returns c = sym (outcome-answer _ _ _ _ (ap (λ (x : ℕ). ltb x 64) (sym (c .before .answering-state .ensures)) ∙ lt-ltb _ 64 (c .if1 .taken)))
+returns c = sym (outcome-step _ _ _ _ (ap (λ (x : ℕ). ltb x 64) (sym (c .before .answering-state .ensures)) ∙ lt-ltb _ 64 (c .if1 .taken)))
 
 stutters-requires : tie.Need-stutters-requires
 stutters-requires c κs = search needs

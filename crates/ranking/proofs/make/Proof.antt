@@ -7,14 +7,14 @@ use Rattle.certificates.specs.declared.Sizes.{Sizes}
 use Rattle.certificates.specs.Layout.{certificateLength}
 use Rattle.certificate_reader.specs.CertificateReading.{readRelation}
 use Rattle.table_reader.proofs.TableLaws.{start-first}
-use Rattle.ranking.specs.Make.{DrawingRead}
-use Rattle.ranking.proofs.MakeAnswers.{left-refused, right-refused, relation-refused, too-short, room-answer, room-output}
+use Rattle.ranking.specs.Make.{InputsRead}
+use Rattle.ranking.proofs.MakeAnswers.{left-refused, right-refused, relation-refused, too-short, room-verdict, made-by}
 use borrow.Author.Needs.{needs}
 use Rattle.ranking.proofs.make.Statement.{statement}
 use Rattle.ranking.proofs.make.Tie as tie
 
 -- both tables and the relation were read
-all-good : (c : tie.After-enum-told3) → let a = c .before .before .before .before .before .before .before .before .before .before .before .before .before .before .before .before .args in DrawingRead (now (a .left)) (now (a .right)) (now (a .relation))
+all-good : (c : tie.After-enum-told3) → let a = c .before .before .before .before .before .before .before .before .before .before .before .before .before .before .before .before .args in InputsRead (now (a .left)) (now (a .right)) (now (a .relation))
 all-good c =
     let a = c .before .before .before .before .before .before .before .before .before .before .before .before .before .before .before .before .args in
     record {
@@ -23,7 +23,7 @@ all-good c =
       sizes = _;
       left-good = sym (c .before .before .before .before .before .before .before .before .before .before .before .read-table .ensures) ∙ c .before .before .before .before .before .before .before .before .before .first .given .1;
       right-good = sym (c .before .before .before .before .before .before .before .read-table2 .ensures) ∙ c .before .before .before .before .before .second .given .1;
-      drawing-good = sym (c .before .before .read-relation .ensures ∙ ap (λ (z : Sizes). readRelation z (now (a .relation))) (c .before .before .before .of .ensures)) ∙ c .enum-told3 .given .1;
+      relation-good = sym (c .before .before .read-relation .ensures ∙ ap (λ (z : Sizes). readRelation z (now (a .relation))) (c .before .before .before .of .ensures)) ∙ c .enum-told3 .given .1;
     }
 
 read-table-requires : tie.Need-read-table-requires
@@ -116,7 +116,8 @@ returns-5 c =
     let g = all-good (c .before .before .before .before .before .before .before .before .before .before) in
     let e = c .before .before .before .before .before .before .before .before .before .length .ensures ∙ ap certificateLength (c .before .before .before .before .before .before .before .before .before .before .before .before .before .of .ensures) in
     let l = subst (λ (n : ℕ). n ≤ length (now (a .output))) e (c .before .before .before .before .before .before .before .before .if1 .left) in
-    (c .before .before .make-read .ensures .0 ∙ sym (room-answer (now (a .left)) (now (a .right)) (now (a .relation)) (now (a .output)) g l), c .before .before .make-read .ensures .1 ∙ sym (room-output (now (a .left)) (now (a .right)) (now (a .relation)) (now (a .output)) g l))
+    let q = made-by (now (a .left)) (now (a .right)) (now (a .relation)) (now (a .output)) (room-verdict (now (a .left)) (now (a .right)) (now (a .relation)) (now (a .output)) g l) in
+    (c .before .before .make-read .ensures .0 ∙ q .0, c .before .before .make-read .ensures .1 ∙ q .1)
 
 pub make-spec : {M : Type 1} → statement M
 make-spec =

@@ -7,15 +7,17 @@ use Rattle.lists.specs.Lists.{putFront}
 use Rattle.lists.proofs.FillLaws.{length-grid}
 use mathlib.Core.List.{List}
 use Prim.Native.Nat.{ℕ, _*_}
-use Rattle.tables.specs.Answers.{sixNumbers}
+use Rattle.answers.specs.Numbers.{sixNumbers}
 use Rattle.certificates.specs.declared.Sizes.{Sizes}
 use Rattle.certificates.specs.Layout.{certificateLength}
 use Rattle.certificates.specs.CertificateModel.{AreBytes}
 use Rattle.certificate_reader.proofs.CertificateLaws.{relation-ok}
 use Rattle.relations.proofs.RelationLaws.{rows-length, columns-length}
 use Rattle.files.proofs.WriterLaws.{written-front}
-use Rattle.examination.proofs.VerdictLaws.{was-accepted, was-refused}
-use Rattle.ranking.proofs.MakeLaws.{Worked, worked, examined-is, written-is, stopped-answer, stopped-output, passed-answer, passed-output}
+use Rattle.answers.specs.Verdicts.{Verdict}
+use Rattle.examination.proofs.VerdictLaws.{was-passed, was-refused}
+use Rattle.ranking.specs.Make.{fileFor, answerAfter, outputAfter}
+use Rattle.ranking.proofs.MakeLaws.{Worked, worked, examined-is, written-is}
 use borrow.Author.Needs.{needs}
 use Rattle.ranking.proofs.make_read.Statement.{statement}
 use Rattle.ranking.proofs.make_read.Tie as tie
@@ -25,18 +27,18 @@ use Rattle.ranking.proofs.make_read.Tie as tie
 abbrev start : tie.After-all-chains2 → tie.Start
 start c = c .before .before .before .before .before .before .before .before .before .before .before .before .before .before .before .before .before .before .before .before .before
 
-drawing-bytes : (c : tie.After-all-chains2) → AreBytes (now (start c .args .drawing))
-drawing-bytes c = λ i. omega (arith, c .before .before .before .before .before .before .before .before .before .before .before .before .before .before .before .before .before .before .shared-slice-known3 .given i)
+relation-bytes : (c : tie.After-all-chains2) → AreBytes (now (start c .args .relation))
+relation-bytes c = λ i. omega (arith, c .before .before .before .before .before .before .before .before .before .before .before .before .before .before .before .before .before .before .shared-slice-known3 .given i)
 
 work : (c : tie.After-all-chains2)
-    → Worked (now (start c .args .left)) (now (start c .args .right)) (now (start c .args .drawing)) (start c .pre .0) (drawing-bytes c)
+    → Worked (now (start c .args .left)) (now (start c .args .right)) (now (start c .args .relation)) (start c .pre .0) (relation-bytes c)
     (c .before .before .before .before .before .before .before .before .before .before .before .before .before .before .row-words .result) (c .before .before .before .before .before .before .before .before .before .before .before .before .column-words .result)
     (c .before .before .before .before .before .before .before .before .all-distances .result) (c .before .before .before .before .before .before .all-distances2 .result)
     (c .before .before .before .all-chains .result) (c .all-chains2 .result)
 work c =
     let ours = c .before .before .before .before .before .before .before .before .before .before .before .steps .ensures in
     let theirs = c .before .before .before .before .before .before .before .before .before .before .steps2 .ensures in
-    worked (now (start c .args .left)) (now (start c .args .right)) (now (start c .args .drawing)) (start c .pre .0) (drawing-bytes c)
+    worked (now (start c .args .left)) (now (start c .args .right)) (now (start c .args .relation)) (start c .pre .0) (relation-bytes c)
     (c .before .before .before .before .before .before .before .before .before .before .before .before .before .before .before .before .of .ensures) (c .before .before .before .before .before .before .before .before .before .before .before .before .before .before .row-words .ensures) (c .before .before .before .before .before .before .before .before .before .before .before .before .column-words .ensures) ours theirs theirs ours
     (c .before .before .before .before .before .before .before .before .all-distances .ensures) (c .before .before .before .all-chains .ensures) (c .before .before .before .before .before .before .all-distances2 .ensures) (c .all-chains2 .ensures)
 
@@ -169,8 +171,8 @@ returns c =
     let a = start w .args in
     let p = start w .pre in
     let e = was-refused _ _ (sym (c .before .before .before .examine .ensures) ∙ c .before .examined .given .1) in
-    let q = sym (examined-is (now (a .left)) (now (a .right)) (now (a .drawing)) (p .0) (drawing-bytes w) (work w) (p .1) (p .2)) ∙ e in
-    (stopped-answer (now (a .left)) (now (a .right)) (now (a .drawing)) _ q, stopped-output (now (a .left)) (now (a .right)) (now (a .drawing)) _ q (now (a .output)))
+    let q = sym (examined-is (now (a .left)) (now (a .right)) (now (a .relation)) (p .0) (relation-bytes w) (work w) (p .1) (p .2)) ∙ e in
+    (ap (answerAfter (now (a .left)) (now (a .right))) (sym q), ap (λ (v : Verdict (Unit {0})). outputAfter v (fileFor (now (a .left)) (now (a .right)) (now (a .relation))) (now (a .output))) (sym q))
 
 same-length : tie.Need-same-length
 same-length c = search needs
@@ -180,14 +182,14 @@ returns-2 c =
     let w = c .before .before .before .before .before .before .before .before .before .before .before .before .before .before .before .before .before .before .before .before in
     let a = start w .args in
     let p = start w .pre in
-    let e = was-accepted _ (sym (c .before .before .before .before .before .before .before .before .before .before .before .before .before .examine .ensures) ∙ c .before .before .before .before .before .before .before .before .before .before .before .enum-told .given .1) in
-    let q = sym (examined-is (now (a .left)) (now (a .right)) (now (a .drawing)) (p .0) (drawing-bytes w) (work w) (p .1) (p .2)) ∙ e in
+    let e = was-passed _ (sym (c .before .before .before .before .before .before .before .before .before .before .before .before .before .examine .ensures) ∙ c .before .before .before .before .before .before .before .before .before .before .before .enum-told .given .1) in
+    let q = sym (examined-is (now (a .left)) (now (a .right)) (now (a .relation)) (p .0) (relation-bytes w) (work w) (p .1) (p .2)) ∙ e in
     let z = c .before .before .before .before .before .before .before .before .before .before .before .before .before .before .before .before .before .before .before .before .before .before .before .before .before .before .before .before .before .before .before .before .before .before .before .before .of .ensures in
-    let full = relation-ok _ (now (a .drawing)) (p .0 .drawing-good) .1 .long ∙ ap (λ (x : Sizes). 8 * x .n1) (sym z) in (
-      ap (sixNumbers 0 0) (c .length .ensures ∙ ap certificateLength z) ∙ passed-answer (now (a .left)) (now (a .right)) (now (a .drawing)) q,
-      c .before .before .before .write-certificate .ensures ∙ written-front _ (now (a .drawing)) _ (now (a .output)) full
-          ∙ ap (λ (f : List ℕ). putFront f (now (a .output))) (written-is (now (a .left)) (now (a .right)) (now (a .drawing)) (p .0) (drawing-bytes w) (work w) z)
-          ∙ passed-output (now (a .left)) (now (a .right)) (now (a .drawing)) q (now (a .output)),
+    let full = relation-ok _ (now (a .relation)) (p .0 .relation-good) .1 .long ∙ ap (λ (x : Sizes). 8 * x .n1) (sym z) in (
+      ap (sixNumbers 0 0) (c .length .ensures ∙ ap certificateLength z) ∙ ap (answerAfter (now (a .left)) (now (a .right))) (sym q),
+      c .before .before .before .write-certificate .ensures ∙ written-front _ (now (a .relation)) _ (now (a .output)) full
+          ∙ ap (λ (f : List ℕ). putFront f (now (a .output))) (written-is (now (a .left)) (now (a .right)) (now (a .relation)) (p .0) (relation-bytes w) (work w) z)
+          ∙ ap (λ (v : Verdict (Unit {0})). outputAfter v (fileFor (now (a .left)) (now (a .right)) (now (a .relation))) (now (a .output))) (sym q),
     )
 
 pub make-read-spec : {M : Type 1} → statement M

@@ -1,8 +1,8 @@
 -- `ranking::relation_answer` meets its contract, case by case. Assumes nothing.
 use mathlib.Core.Path.{sym, ap, _∙_}
 use Rattle.certificate_reader.specs.declared.RelationRead.{RelationRead}
-use Rattle.tables.specs.Answers.{blank}
-use Rattle.ranking.specs.Make.{relationThen}
+use Rattle.answers.specs.Verdicts.{refusalOf}
+use Rattle.certificate_reader.specs.CertificateAnswers.{relationVerdict}
 use borrow.Author.Needs.{needs}
 use Rattle.ranking.proofs.relation_answer.Statement.{statement}
 use Rattle.ranking.proofs.relation_answer.Tie as tie
@@ -14,13 +14,13 @@ enum-told : tie.Need-enum-told
 enum-told c = search needs
 
 returns : tie.Need-returns
-returns c = sym (ap (λ (x : RelationRead). relationThen x blank) (c .enum-told .given .1))
+returns c = sym (ap (λ (x : RelationRead). refusalOf (relationVerdict 2 x)) (c .enum-told .given .1))
 
 answer-requires : tie.Need-answer-requires
 answer-requires c κs = search needs
 
 returns-2 : tie.Need-returns-2
-returns-2 c = c .answer .ensures ∙ sym (ap (λ (x : RelationRead). relationThen x blank) (c .before .before .read .given .1))
+returns-2 c = c .answer .ensures ∙ sym (ap (λ (x : RelationRead). refusalOf (relationVerdict 2 x)) (c .before .before .read .given .1))
 
 pub relation-answer-spec : {M : Type 1} → statement M
 relation-answer-spec =

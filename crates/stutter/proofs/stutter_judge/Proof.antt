@@ -1,7 +1,7 @@
 -- `stutter::stutter_judge` meets its contract: it puts the numbers of the judge's answer. Assumes nothing.
 use mathlib.Core.Path.{ap, _∙_}
 use denote.Ref.{now}
-use Rattle.tables.specs.declared.Answer.{Answer}
+use Rattle.answers.specs.declared.Answer.{Answer}
 use Rattle.stutter.specs.Interface.{answered}
 use borrow.Author.Needs.{needs}
 use Rattle.stutter.proofs.stutter_judge.Statement.{statement}

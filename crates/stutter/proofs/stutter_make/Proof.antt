@@ -4,7 +4,7 @@ use lib.ListN.{length}
 use denote.Ref.{now}
 use borrow.Author.Tests.{le-leb, lt-leb}
 use Rattle.lists.proofs.FillLaws.{put-front-short}
-use Rattle.tables.specs.declared.Answer.{Answer}
+use Rattle.answers.specs.declared.Answer.{Answer}
 use Rattle.ranking.specs.Make.{makeAnswer}
 use Rattle.stutter.specs.Interface.{numbersOf, hasRoom, answered, whereRoom}
 use borrow.Author.Needs.{needs}

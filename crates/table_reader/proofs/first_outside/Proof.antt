@@ -8,7 +8,8 @@ use borrow.Author.Needs.{needs}
 use Rattle.lists.specs.Below.{firstBelow}
 use Rattle.lists.proofs.BelowLaws.{first-start, first-miss, first-hit}
 use Rattle.table_reader.specs.TableReading.{endsOutside}
-use Rattle.table_reader.proofs.TestLaws.{decides-true, decides-false, outside-decides}
+use Rattle.answers.proofs.DecideLaws.{decides-true, decides-false}
+use Rattle.table_reader.proofs.TestLaws.{outside-decides}
 use Rattle.table_reader.proofs.first_outside.Statement.{statement}
 use Rattle.table_reader.proofs.first_outside.Tie as tie
 

@@ -5,7 +5,8 @@ use denote.Ref.{now}
 use borrow.Author.Tests.{eq-eqb}
 use borrow.Author.Needs.{needs}
 use Rattle.lists.specs.Numbers.{byteAt}
-use Rattle.table_reader.proofs.TestLaws.{decides-false, magic-decides}
+use Rattle.answers.proofs.DecideLaws.{decides-false}
+use Rattle.table_reader.proofs.TestLaws.{magic-decides}
 use Rattle.tables.specs.Table.{magicFits}
 use Rattle.table_reader.proofs.magic_fits.Statement.{statement}
 use Rattle.table_reader.proofs.magic_fits.Tie as tie

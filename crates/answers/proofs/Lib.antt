@@ -1,0 +1,4 @@
+-- Laws of causes and verdicts, for the proofs of the crates above.
+pub mod DecideLaws
+pub mod CauseLaws
+pub mod VerdictLaws

@@ -1,0 +1,58 @@
+-- The judge's verdict is decided by its causes: it refuses with the numbers of the first that applies, and goes on where none does. Assumes nothing.
+use Prim.Native.Nat.{ℕ}
+use mathlib.Core.List.{List, _++_, flatMap}
+use Rattle.bisimulation.specs.Systems.{View, Ranks}
+use Rattle.answers.specs.Causes.{Cause, Numbered}
+use Rattle.answers.proofs.CauseLaws.{numbered-append, numbered-flat}
+use Rattle.answers.proofs.VerdictLaws.{Decided, Anything, decided-then, decided-along, decided-go}
+use Rattle.tables.specs.Table.{startOf}
+use Rattle.table_reader.specs.TableCauses.{tableCauses}
+use Rattle.table_reader.proofs.TableCauseLaws.{after-table, table-numbers}
+use Rattle.certificates.specs.Layout.{sizesOf}
+use Rattle.certificates.specs.CertificateModel.{certifiedView, certifiedRanks}
+use Rattle.certificate_reader.specs.CertificateReading.{readCertificate}
+use Rattle.certificate_reader.specs.CertificateAnswers.{certificateVerdict}
+use Rattle.certificate_reader.specs.CertificateCauses.{certificateCauses}
+use Rattle.certificate_reader.proofs.CertificateCauseLaws.{certificate-decided, certificate-numbers}
+use Rattle.obligations.specs.CheckCauses.{startsCauses, checkCauses}
+use Rattle.obligations.specs.Judging.{checks, startsVerdict, checkVerdict}
+use Rattle.obligations.proofs.JudgingLaws.{starts-decided, check-decided, check-numbers}
+use Rattle.checker.specs.Progress.{none, counted, tallied}
+use Rattle.checker.specs.Judge.{judged, judgedBytes, judgeVerdict}
+use Rattle.checker.specs.JudgeCauses.{judgeCauses, judgeNumber}
+
+pub judged-decided : (v : View) (r : Ranks) (start start′ : ℕ) → Decided Anything (startsCauses v start start′ ++ flatMap (checkCauses v r) (checks v)) (judged v r start start′)
+unfolding judged
+judged-decided v r start start′ =
+    decided-then (startsVerdict v start start′) (starts-decided v start start′) λ x g n.
+    decided-along (checkCauses v r) (λ c. tallied (checkVerdict v r c)) (λ c y. decided-go (checkVerdict v r c) (counted y) (check-decided v r c)) (checks v) none
+
+module _ (left right c : List ℕ) where
+  pub judge-decided : Decided Anything (judgeCauses left right c) (judgeVerdict left right c)
+  unfolding judgeVerdict judgedBytes
+  judge-decided =
+      after-table 0 left λ l. after-table 1 right λ k.
+      decided-then (certificateVerdict 2 (readCertificate (sizesOf left right) c)) (certificate-decided 2 (sizesOf left right) c) λ z e n.
+      judged-decided (certifiedView left right c) (certifiedRanks left right c) (startOf left) (startOf right)
+
+  -- the causes after each file
+  abbrev pub afterCertificate : List Cause
+  afterCertificate =
+      startsCauses (certifiedView left right c) (startOf left) (startOf right) ++ flatMap (checkCauses (certifiedView left right c) (certifiedRanks left right c)) (checks (certifiedView left right c))
+
+  abbrev pub afterRight : List Cause
+  afterRight = certificateCauses 2 (sizesOf left right) c ++ afterCertificate
+
+  abbrev pub afterLeft : List Cause
+  afterLeft = tableCauses 1 right ++ afterRight
+
+  -- 1 to 9 with the file 0 or 1, and 10 to 19 with the file 2
+  pub judge-numbers : Numbered judgeNumber (judgeCauses left right c)
+  judge-numbers =
+      numbered-append judgeNumber (tableCauses 0 left) afterLeft (table-numbers judgeNumber 0 (tt, (tt, (tt, (tt, (tt, (tt, (tt, (tt, (tt, tt))))))))) left)
+      (numbered-append judgeNumber (tableCauses 1 right) afterRight (table-numbers judgeNumber 1 (tt, (tt, (tt, (tt, (tt, (tt, (tt, (tt, (tt, tt))))))))) right)
+      (numbered-append judgeNumber (certificateCauses 2 (sizesOf left right) c) afterCertificate (certificate-numbers judgeNumber 2 (tt, (tt, (tt, (tt, (tt, (tt, tt)))))) (sizesOf left right) c) (
+        tt,
+        numbered-flat judgeNumber (checkCauses (certifiedView left right c) (certifiedRanks left right c))
+            (check-numbers judgeNumber (tt, (tt, (tt, tt))) (certifiedView left right c) (certifiedRanks left right c)) (checks (certifiedView left right c)),
+      )))

@@ -1,0 +1,61 @@
+-- The maker's verdict is decided by its causes: it refuses with the numbers of the first that applies, and goes on where none does. Assumes nothing.
+use Prim.Native.Nat.{ℕ}
+use mathlib.Core.Path.{refl}
+use mathlib.Core.List.{List, _++_}
+use lib.ListN.{length}
+use Rattle.answers.specs.Numbers.{sixNumbers}
+use Rattle.answers.specs.Causes.{Cause, Numbered}
+use Rattle.answers.specs.Verdicts.{refusedWith, passed}
+use Rattle.answers.proofs.CauseLaws.{numbered-append}
+use Rattle.answers.proofs.DecideLaws.{ltb-decides}
+use Rattle.answers.proofs.VerdictLaws.{Decided, Anything, decided-none, decided-test, decided-then}
+use Rattle.tables.specs.Table.{startOf}
+use Rattle.table_reader.specs.TableCauses.{tableCauses}
+use Rattle.table_reader.proofs.TableCauseLaws.{formed-good, after-table, table-numbers}
+use Rattle.certificates.specs.Layout.{sizesOf, certificateLength}
+use Rattle.certificates.specs.CertificateModel.{AreBytes, viewOf}
+use Rattle.certificate_reader.specs.CertificateReading.{readRelation}
+use Rattle.certificate_reader.specs.CertificateAnswers.{relationVerdict}
+use Rattle.certificate_reader.specs.CertificateCauses.{relationCauses}
+use Rattle.certificate_reader.proofs.CertificateCauseLaws.{relation-decided, relation-none-good, relation-numbers}
+use Rattle.examination.specs.ExaminationCauses.{examinationCauses}
+use Rattle.examination.proofs.BytesLaws.{formed}
+use Rattle.examination.proofs.ExamineLaws.{examined-decided, examination-numbers}
+use Rattle.ranking.specs.Make.{roomVerdict, madeVerdict, makeVerdict}
+use Rattle.ranking.specs.MakerCauses.{roomCauses, makerCauses, makerNumber}
+
+room-decided : (L : ℕ) (output : List ℕ) → Decided Anything (roomCauses L output) (roomVerdict L (length output))
+unfolding roomVerdict
+room-decided L output = decided-test (λ x. x) (refusedWith (sixNumbers 21 3 L)) passed (ltb-decides (length output) L) refl (decided-none tt)
+
+module _ (left right relation output : List ℕ) where
+  pub maker-decided : AreBytes relation → Decided Anything (makerCauses left right relation output) (makeVerdict left right relation output)
+  unfolding makeVerdict madeVerdict
+  maker-decided bytes =
+      after-table 0 left λ l. after-table 1 right λ k.
+      decided-then (relationVerdict 2 (readRelation (sizesOf left right) relation)) (relation-decided 2 (sizesOf left right) relation) λ z e n.
+      decided-then (roomVerdict (certificateLength (sizesOf left right)) (length output)) (room-decided (certificateLength (sizesOf left right)) output) λ x g m.
+      examined-decided (viewOf left right relation)
+      (formed left right relation (formed-good left l) (formed-good right k) (relation-none-good 2 (sizesOf left right) relation n) bytes) (startOf left) (startOf right)
+
+  -- the causes after each file, and after the room
+  abbrev pub afterRoom : List Cause
+  afterRoom = examinationCauses (viewOf left right relation) (startOf left) (startOf right)
+
+  abbrev pub afterRelation : List Cause
+  afterRelation = roomCauses (certificateLength (sizesOf left right)) output ++ afterRoom
+
+  abbrev pub afterRight : List Cause
+  afterRight = relationCauses 2 (sizesOf left right) relation ++ afterRelation
+
+  abbrev pub afterLeft : List Cause
+  afterLeft = tableCauses 1 right ++ afterRight
+
+  -- 1 to 9 with the file 0 or 1; 15 to 17, 20, 22 and 23 with the file 2; 21 with the file 3
+  pub maker-numbers : Numbered makerNumber (makerCauses left right relation output)
+  maker-numbers =
+      numbered-append makerNumber (tableCauses 0 left) afterLeft (table-numbers makerNumber 0 (tt, (tt, (tt, (tt, (tt, (tt, (tt, (tt, (tt, tt))))))))) left)
+      (numbered-append makerNumber (tableCauses 1 right) afterRight (table-numbers makerNumber 1 (tt, (tt, (tt, (tt, (tt, (tt, (tt, (tt, (tt, tt))))))))) right)
+      (numbered-append makerNumber (relationCauses 2 (sizesOf left right) relation) afterRelation (relation-numbers makerNumber 2 (tt, (tt, tt)) (sizesOf left right) relation)
+      (numbered-append makerNumber (roomCauses (certificateLength (sizesOf left right)) output) afterRoom (tt, tt)
+      (examination-numbers makerNumber (tt, (tt, (tt, (tt, tt)))) (viewOf left right relation) (startOf left) (startOf right)))))

@@ -1,0 +1,73 @@
+-- The table reader's part of demand 1: a table is refused with the six numbers of the first cause that applies to its bytes, and read where none does.
+-- The reader is a chain of tests in the order of the causes, and each test decides its cause. Assumes nothing.
+use Prim.Native.Nat.{ℕ}
+use mathlib.Core.Path.{_≡_, refl, ap, _∙_}
+use mathlib.Core.Bool.{Bool}
+use mathlib.Core.List.{List, [], _∷_, _++_}
+use native.Mathlib.Omega.{arith}
+use lib.ListN.{length}
+use Rattle.answers.specs.Numbers.{sixNumbers}
+use Rattle.answers.specs.Causes.{Cause, NoCause, Numbered, Allows}
+use Rattle.answers.specs.Verdicts.{Verdict, goOn, _andThen_}
+use Rattle.answers.proofs.CauseLaws.{numbered-append, numbered-below}
+use Rattle.answers.proofs.DecideLaws.{ltb-decides, leb-decides, eqb-decides, not-decides}
+use Rattle.answers.proofs.VerdictLaws.{Decided, decided-none, decided-end, decided-test, decided-search, decided-then, none-on, on-none}
+use Rattle.tables.specs.declared.Head.{Head}
+use Rattle.tables.specs.Table.{versionOf, statesOf, startOf, stepsOf, tableLength, stepsPart}
+use Rattle.table_reader.specs.declared.TableRefusal.the-variants.{Short, Magic, Version, States, Start, Steps, Length, StepEnd, Doubled}
+use Rattle.table_reader.specs.declared.TableRead.{TableRead}
+use Rattle.table_reader.specs.declared.TableRead.the-variants.{Good, Refused}
+use Rattle.table_reader.specs.TableReading.{headOf, readSizes, readHeader, readSteps, withSteps, readTable}
+use Rattle.table_reader.specs.TableAnswers.{tableVerdict}
+use Rattle.table_reader.specs.TableCauses.{headerCauses, endCauses, doubledCauses, tableCauses, WellFormedTable}
+use Rattle.table_reader.proofs.TestLaws.{magic-decides, states-decides, outside-decides, doubled-decides}
+
+-- a verdict that goes on is that of a header
+on-good : (file : ℕ) (x : TableRead) {h : Head} → tableVerdict file x ≡ goOn h → x ≡ Good h
+on-good file (Good k) e = ap Good (cc e)
+on-good file (Refused r) e = absurd (let z : _≡_ {A = ℕ} 0 1 = cc e in omega arith)
+
+module _ (file : ℕ) (s : List ℕ) where
+  abbrev steps-on : TableRead → Verdict Head
+  steps-on x = tableVerdict file (withSteps s x)
+
+  -- the reader goes on with the header where no cause applies, and refuses with the numbers of the first that does
+  pub table-decided : Decided (λ h. h ≡ headOf s) (tableCauses file s) (tableVerdict file (readTable s))
+  unfolding readTable readHeader readSizes readSteps
+  table-decided =
+      decided-test steps-on (Refused Short) _ (ltb-decides (length s) 9) refl
+      (decided-test steps-on (Refused Magic) _ (not-decides (magic-decides 0x54 s)) refl
+      (decided-test steps-on (Refused Version) _ (not-decides (eqb-decides (versionOf s) 1)) refl
+      (decided-test steps-on (Refused States) _ (not-decides (states-decides s)) refl
+      (decided-test steps-on (Refused Start) _ (leb-decides (statesOf s) (startOf s)) refl
+      (decided-test steps-on (Refused Steps) _ (ltb-decides 256 (stepsOf s)) refl
+      (decided-test steps-on (Refused Length) _ (not-decides (eqb-decides (length s) (tableLength (statesOf s) (stepsOf s)))) refl
+      (decided-search (tableVerdict file) (stepsOf s) (sixNumbers 8 file) (λ j. Refused (StepEnd j)) _ (outside-decides (stepsPart s) (statesOf s)) (λ j. refl)
+      (decided-end (decided-search (tableVerdict file) (stepsOf s) (sixNumbers 9 file) (λ j. Refused (Doubled j)) _ (doubled-decides (stepsPart s)) (λ j. refl)
+      (decided-none refl))))))))))
+
+  -- what is read is the header, and no cause applies
+  pub good-none : {h : Head} → readTable s ≡ Good h → (h ≡ headOf s) × NoCause (tableCauses file s)
+  good-none e = on-none (ap (tableVerdict file) e) table-decided
+
+  pub none-good : NoCause (tableCauses file s) → readTable s ≡ Good (headOf s)
+  none-good n = let q = none-on (tableVerdict file (readTable s)) table-decided n in on-good file (readTable s) (q .1 ∙ ap goOn (q .2))
+
+-- a table that is read is well formed, and the other way round, whichever file it is
+pub good-formed : (s : List ℕ) {h : Head} → readTable s ≡ Good h → WellFormedTable s
+good-formed s e = good-none 0 s e .1
+
+pub formed-good : (s : List ℕ) → WellFormedTable s → readTable s ≡ Good (headOf s)
+formed-good = none-good 0
+
+-- the table's causes, then those of what follows
+pub after-table : (file : ℕ) (s : List ℕ) {B : Type 0} {Fine : B → Type 0} {later : List Cause} {rest : Verdict B} → (WellFormedTable s → Decided Fine later rest)
+    → Decided Fine (tableCauses file s ++ later) (tableVerdict file (readTable s) andThen λ h. rest)
+after-table file s d = decided-then (tableVerdict file (readTable s)) (table-decided file s) (λ h e n. d (good-formed s (none-good file s n)))
+
+-- ---- the numbers are 1 to 9, with the file given
+
+pub table-numbers : (f : ℕ → ℕ → Bool) (file : ℕ) → Allows f file (1 ∷ 2 ∷ 3 ∷ 4 ∷ 5 ∷ 6 ∷ 7 ∷ 8 ∷ 9 ∷ []) → (s : List ℕ) → Numbered f (tableCauses file s)
+table-numbers f file (h1, (h2, (h3, (h4, (h5, (h6, (h7, (h8, (h9, h))))))))) s =
+    numbered-append f (headerCauses file s) (endCauses file s ++ doubledCauses file s) (h1, (h2, (h3, (h4, (h5, (h6, (h7, tt)))))))
+    (numbered-append f (endCauses file s) (doubledCauses file s) (numbered-below f (stepsOf s) _ (λ j. (h8, tt))) (numbered-below f (stepsOf s) _ (λ j. (h9, tt))))

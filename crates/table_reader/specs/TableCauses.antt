@@ -1,0 +1,58 @@
+-- The causes 1 to 9, each worded as its row of document 01's table, and not through the reader. `file` is the number of the file in the answer.
+use Prim.Native.Nat.{ℕ, _≤_, _<_}
+use mathlib.Core.Path.{_≡_}
+use mathlib.Core.Logic.{_⊎_}
+use mathlib.Core.List.{List, [], _∷_, _++_}
+use lib.ListN.{length}
+use Rattle.lists.specs.Lists.{joinBelow}
+use Rattle.lists.specs.Numbers.{byteAt}
+use Rattle.answers.specs.Numbers.{sixNumbers}
+use Rattle.answers.specs.Causes.{Cause, _gives_, NoCause}
+use Rattle.tables.specs.Table.{versionOf, statesOf, startOf, stepsOf, tableLength, stepsPart, fromOf, toOf}
+
+-- Bytes 0 to 2 are "TP" and this third one.
+abbrev pub MagicFits : ℕ → List ℕ → Type 0
+MagicFits third s = (byteAt s 0 ≡ 0x54) × (byteAt s 1 ≡ 0x50) × (byteAt s 2 ≡ third)
+
+-- An end of step j is n or more.
+abbrev pub EndOutside : List ℕ → ℕ → Type 0
+EndOutside s j = (statesOf s ≤ fromOf (stepsPart s) j) ⊎ (statesOf s ≤ toOf (stepsPart s) j)
+
+-- Step j equals an earlier one.
+abbrev pub EqualsEarlier : List ℕ → ℕ → Type 0
+EqualsEarlier s j = (i : ℕ) × (i < j) × (fromOf (stepsPart s) i ≡ fromOf (stepsPart s) j) × (toOf (stepsPart s) i ≡ toOf (stepsPart s) j)
+
+-- The causes of the header and the length, in the order of their numbers.
+abbrev pub headerCauses : ℕ → List ℕ → List Cause
+headerCauses file s =
+    -- table under 9 bytes
+    (length s < 9) gives sixNumbers 1 file 0
+    -- first three bytes
+    ∷ (¬ MagicFits 0x54 s) gives sixNumbers 2 file 0
+    -- version not 1
+    ∷ (¬ (versionOf s ≡ 1)) gives sixNumbers 3 file 0
+    -- n not 1 to 64
+    ∷ (¬ ((1 ≤ statesOf s) × (statesOf s ≤ 64))) gives sixNumbers 4 file 0
+    -- start n or more
+    ∷ (statesOf s ≤ startOf s) gives sixNumbers 5 file 0
+    -- m over 256
+    ∷ (256 < stepsOf s) gives sixNumbers 6 file 0
+    -- table length
+    ∷ (¬ (length s ≡ tableLength (statesOf s) (stepsOf s))) gives sixNumbers 7 file 0
+    ∷ []
+
+-- Step end n or more, a the first such step.
+abbrev pub endCauses : ℕ → List ℕ → List Cause
+endCauses file s = joinBelow (stepsOf s) (λ j. EndOutside s j gives sixNumbers 8 file j ∷ [])
+
+-- Step equal to an earlier one, a the first such step.
+abbrev pub doubledCauses : ℕ → List ℕ → List Cause
+doubledCauses file s = joinBelow (stepsOf s) (λ j. EqualsEarlier s j gives sixNumbers 9 file j ∷ [])
+
+-- The causes that turn a table away, in the order of their numbers.
+abbrev pub tableCauses : ℕ → List ℕ → List Cause
+tableCauses file s = headerCauses file s ++ (endCauses file s ++ doubledCauses file s)
+
+-- A table is well formed where no cause for turning a table away applies to it; which file it is makes no difference.
+abbrev pub WellFormedTable : List ℕ → Type 0
+WellFormedTable s = NoCause (tableCauses 0 s)
