@@ -29,6 +29,11 @@ pub then-on : {A B : Type 0} (v : Verdict A) {f : A → Verdict B} {y : B} → (
 then-on (goOn x) e = (x, refl, e)
 then-on (refusedWith a) e = absurd (let z : _≡_ {A = ℕ} 0 1 = cc e in omega arith)
 
+-- a chain may be cut anywhere
+pub then-then : {A B C : Type 0} (v : Verdict A) (f : A → Verdict B) (g : B → Verdict C) → ((v andThen f) andThen g) ≡ (v andThen λ x. f x andThen g)
+then-then (goOn x) f g = refl
+then-then (refusedWith a) f g = refl
+
 pub along-map : {A B C : Type 0} (f : B → A → Verdict A) (g : C → B) (cs : List C) (x : A) → along f (map g cs) x ≡ along (λ c. f (g c)) cs x
 unfolding along
 along-map f g [] x = refl
@@ -131,13 +136,15 @@ module _ {A : Type 0} {Good : A → Type 0} where
   later (refusedWith b) n d = record { by = inr (n, d .by) }
 
   -- one test more; `on` is what becomes of the chain's result
-  pub decided-test : {Y : Type 0} (on : Y → Verdict A) {test : Bool} (y z : Y) {P : Type 0} {a : Answer} {cs : List Cause} → Decides test P → on y ≡ refusedWith a
+  pub decided-test : {Y : Type 0} (on : Y → Verdict A) {test : Bool} (y z : Y) {P : Type 0} {a : Answer} {cs : List Cause}
+      → Decides test P → on y ≡ refusedWith a
       → Decided Good cs (on z) → Decided Good (P gives a ∷ cs) (on (cond test y z))
   decided-test on {test = true} y z {P} {a} {cs} d e rest = subst (Decided Good (P gives a ∷ cs)) (sym e) (record { by = inl (d .sound tt, refl) })
   decided-test on {test = false} y z d e rest = later (on z) (d .complete) rest
 
   -- the same of a test that the cause fails
-  pub decided-unless : {Y : Type 0} (on : Y → Verdict A) (test : Bool) (y z : Y) {P : Type 0} {a : Answer} {cs : List Cause} → Decides (not test) P → on y ≡ refusedWith a
+  pub decided-unless : {Y : Type 0} (on : Y → Verdict A) (test : Bool) (y z : Y) {P : Type 0} {a : Answer} {cs : List Cause}
+      → Decides (not test) P → on y ≡ refusedWith a
       → Decided Good cs (on z) → Decided Good (P gives a ∷ cs) (on (cond test z y))
   decided-unless on false y z {P} {a} {cs} d e rest = subst (Decided Good (P gives a ∷ cs)) (sym e) (record { by = inl (d .sound tt, refl) })
   decided-unless on true y z d e rest = later (on z) (d .complete) rest
@@ -150,7 +157,9 @@ module _ {A : Type 0} {Good : A → Type 0} where
   decided-search on zero numbers y z d r rest = rest
   decided-search on (suc n) numbers y z {test} {P} {cs} d r rest =
       go (test 0) (d 0)
-      (subst (λ (b : Bool). Decided Good more (on (cond b (y (suc k)) z))) (sym (leb·suc-suc (suc k) n)) (decided-search on n (λ i. numbers (suc i)) (λ i. y (suc i)) z (λ i. d (suc i)) (λ i. r (suc i)) rest))
+      (subst (λ (b : Bool). Decided Good more (on (cond b (y (suc k)) z)))
+      (sym (leb·suc-suc (suc k) n))
+      (decided-search on n (λ i. numbers (suc i)) (λ i. y (suc i)) z (λ i. d (suc i)) (λ i. r (suc i)) rest))
     where
       k : ℕ
       k = firstBelow n (λ i. test (suc i))
@@ -186,11 +195,13 @@ module _ {A : Type 0} {Good : A → Type 0} where
   on-none {causes} e d = subst (Decided Good causes) e d .by
 
 -- something else is known of what was found
-pub decided-as : {A : Type 0} {Good Fine : A → Type 0} {causes : List Cause} (v : Verdict A) → ((x : A) → Good x → Fine x) → Decided Good causes v → Decided Fine causes v
+pub decided-as : {A : Type 0} {Good Fine : A → Type 0} {causes : List Cause} (v : Verdict A)
+    → ((x : A) → Good x → Fine x) → Decided Good causes v → Decided Fine causes v
 decided-as (goOn x) f d = record { by = (f x (d .by .0), d .by .1) }
 decided-as (refusedWith a) f d = record { by = d .by }
 
-pub decided-go : {A B : Type 0} {Good : A → Type 0} {causes : List Cause} (v : Verdict A) (g : A → B) → Decided Good causes v → Decided Anything causes (v andThen λ x. goOn (g x))
+pub decided-go : {A B : Type 0} {Good : A → Type 0} {causes : List Cause} (v : Verdict A) (g : A → B)
+    → Decided Good causes v → Decided Anything causes (v andThen λ x. goOn (g x))
 decided-go (goOn x) g d = record { by = (tt, d .by .1) }
 decided-go (refusedWith a) g d = record { by = d .by }
 
@@ -205,19 +216,22 @@ decided-then {B = B} {Fine = Fine} {xs = xs} {ys = ys} (goOn x) {next} d rest = 
     go (refusedWith a) e = record { by = first-right xs ys a (d .by .1) (e .by) }
 
 -- one after the other along a list, and over indices
-pub decided-along : {A C : Type 0} (causes : C → List Cause) (f : C → A → Verdict A) → ((c : C) (x : A) → Decided Anything (causes c) (f c x)) → (cs : List C) (x : A)
+pub decided-along : {A C : Type 0} (causes : C → List Cause) (f : C → A → Verdict A)
+    → ((c : C) (x : A) → Decided Anything (causes c) (f c x)) → (cs : List C) (x : A)
     → Decided Anything (flatMap causes cs) (along f cs x)
 unfolding along flatMap
 decided-along causes f d [] x = decided-none tt
 decided-along causes f d (c ∷ cs) x = decided-then (f c x) (d c x) (λ y g n. decided-along causes f d cs y)
 
-pub decided-below : (n : ℕ) (causes : ℕ → List Cause) (f : ℕ → Verdict (Unit {0})) → ((i : ℕ) → Decided Anything (causes i) (f i)) → Decided Anything (joinBelow n causes) (firstOf n f)
+pub decided-below : (n : ℕ) (causes : ℕ → List Cause) (f : ℕ → Verdict (Unit {0}))
+    → ((i : ℕ) → Decided Anything (causes i) (f i)) → Decided Anything (joinBelow n causes) (firstOf n f)
 unfolding firstOf joinBelow
 decided-below zero causes f d = decided-none tt
 decided-below (suc n) causes f d = decided-then (f 0) (d 0) (λ y g m. decided-below n (λ i. causes (suc i)) (λ i. f (suc i)) (λ i. d (suc i)))
 
 -- the answer at the end
-pub decided-answer : {A : Type 0} {Good : A → Type 0} {causes : List Cause} (Success : Answer → Type 0) (success : A → Answer) (v : Verdict A) → Decided Good causes v
+pub decided-answer : {A : Type 0} {Good : A → Type 0} {causes : List Cause} (Success : Answer → Type 0) (success : A → Answer) (v : Verdict A)
+    → Decided Good causes v
     → ((x : A) → v ≡ goOn x → NoCause causes → Success (success x)) → Answers causes Success (answerOf success v)
 decided-answer Success success (goOn x) d g = inr (d .by .1, g x refl (d .by .1))
 decided-answer Success success (refusedWith a) d g = inl (d .by)

@@ -24,14 +24,14 @@ pub record First (v : View) (s : ℕ) (J : List ℕ) (t : ℕ) (K : List ℕ) : 
   pub small′ : length K < v .other .states
   pub all-related : AllRelated v (s ∷ map (v .own .to) J) (t ∷ map (v .other .to) K)
 
--- later blocks: entered by j and by k, which answer each other, then silent steps
+-- later blocks: entered by j and by k, which serve each other, then silent steps
 abbrev pub Later : View → List (List ℕ) → List (List ℕ) → Type 0
 Later v [] [] = Unit {0}
 Later v [] (Y ∷ Ys) = ⊥
 Later v (X ∷ Xs) [] = ⊥
 Later v ([] ∷ Xs) (Y ∷ Ys) = ⊥
 Later v ((j ∷ J) ∷ Xs) ([] ∷ Ys) = ⊥
-Later v ((j ∷ J) ∷ Xs) ((k ∷ K) ∷ Ys) = T (v .answers j k) × First v (v .own .to j) J (v .other .to k) K × Later v Xs Ys
+Later v ((j ∷ J) ∷ Xs) ((k ∷ K) ∷ Ys) = T (v .serves j k) × First v (v .own .to j) J (v .other .to k) K × Later v Xs Ys
 
 pub record Fitted (v : View) (s : ℕ) (J : List ℕ) (t : ℕ) (x : Cut) : Type 0 where
   pub cut : ownSteps x ≡ J
@@ -41,7 +41,7 @@ pub record Fitted (v : View) (s : ℕ) (J : List ℕ) (t : ℕ) (x : Cut) : Type
   pub terminal : Terminal (v .own) (endState (v .own) s J) → Terminal (v .other) (endState (v .other) t (otherSteps x))
 
 module _ (v : View) where
-  open View v using (own, other, answers)
+  open View v using (own, other, serves)
 
   blocks-none : SameBlocks v [] []
   blocks-none = record { equally-many = refl; none-empty = tt; none-empty′ = tt; small = tt; small′ = tt; related = λ i. tt }
@@ -88,9 +88,10 @@ module _ (v : View) where
   Silent S bs = All (λ b. All (λ j. T (S .silent j)) (tail b)) bs
 
   abbrev Entered : List (List ℕ) → List (List ℕ) → Type 0
-  Entered Js Ks = (i : ℕ) → i < length Js → T (answers (entering Js i) (entering Ks i))
+  Entered Js Ks = (i : ℕ) → i < length Js → T (serves (entering Js i) (entering Ks i))
 
-  later-all : (Js Ks : List (List ℕ)) → Later v Js Ks → SameBlocks v (map (map (own .to)) Js) (map (map (other .to)) Ks) × Silent own Js × Silent other Ks × Entered Js Ks
+  later-all : (Js Ks : List (List ℕ)) → Later v Js Ks
+      → SameBlocks v (map (map (own .to)) Js) (map (map (other .to)) Ks) × Silent own Js × Silent other Ks × Entered Js Ks
   later-all [] [] l = (blocks-none, tt, tt, λ i b. absurd (not-suc-le-zero b))
   later-all [] (Y ∷ Ys) l = absurd l
   later-all (X ∷ Xs) [] l = absurd l
@@ -104,14 +105,18 @@ module _ (v : View) where
       at e zero b = l .0
       at e (suc i) b = e i (le-of-suc-le-suc b)
 
-  all-later : (Js Ks : List (List ℕ)) → SameBlocks v (map (map (own .to)) Js) (map (map (other .to)) Ks) → Silent own Js → Silent other Ks → Entered Js Ks → Later v Js Ks
+  all-later : (Js Ks : List (List ℕ)) → SameBlocks v (map (map (own .to)) Js) (map (map (other .to)) Ks)
+      → Silent own Js → Silent other Ks → Entered Js Ks → Later v Js Ks
   all-later [] [] b i i′ e = tt
   all-later [] (Y ∷ Ys) b i i′ e = omega (arith, b .equally-many)
   all-later (X ∷ Xs) [] b i i′ e = omega (arith, b .equally-many)
   all-later ([] ∷ Xs) (Y ∷ Ys) b i i′ e = b .none-empty .0 refl
   all-later ((j ∷ J) ∷ Xs) ([] ∷ Ys) b i i′ e = b .none-empty′ .0 refl
-  all-later ((j ∷ J) ∷ Xs) ((k ∷ K) ∷ Ys) b i i′ e =
-      (e 0 (suc-le-suc zero-le), blocks-first (own .to j) J (other .to k) K _ _ b (i .0) (i′ .0), all-later Xs Ys (blocks-tail _ _ _ _ b) (i .1) (i′ .1) (λ n l. e (suc n) (suc-le-suc l)))
+  all-later ((j ∷ J) ∷ Xs) ((k ∷ K) ∷ Ys) b i i′ e = (
+    e 0 (suc-le-suc zero-le),
+    blocks-first (own .to j) J (other .to k) K _ _ b (i .0) (i′ .0),
+    all-later Xs Ys (blocks-tail _ _ _ _ b) (i .1) (i′ .1) (λ n l. e (suc n) (suc-le-suc l)),
+  )
 
   pub fitted-fits : (s : ℕ) (J : List ℕ) (t : ℕ) (x : Cut) → Fitted v s J t x → Fits v s J t x
   fitted-fits s J t x f =

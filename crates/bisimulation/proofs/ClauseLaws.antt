@@ -14,7 +14,7 @@ pub flip-formed : (v : View) → WellFormed v → WellFormed (flip v)
 flip-formed v w = record { here = w .there; there = w .here }
 
 module _ (v : View) where
-  open View v using (own, other, related, answers)
+  open View v using (own, other, related, serves)
 
   pub pairs-e : WellFormed v → (f : ℕ → ℕ → Bool) → T (allPairs v f) → (s t : ℕ) → T (related s t) → T (f s t)
   unfolding allPairs
@@ -26,7 +26,9 @@ module _ (v : View) where
 
   pub initial-e : WellFormed v → T (initialRelated v) → InitialRelated v
   unfolding initialRelated
-  initial-e w h s a = let q = any-e _ _ (imp-e (own .initial s) _ (all-e _ _ h s (w .here .initial< s a)) a) in (q .0, search (and-l, and-r), search (and-l, and-r))
+  initial-e w h s a =
+      let q = any-e _ _ (imp-e (own .initial s) _ (all-e _ _ h s (w .here .initial< s a)) a) in
+      (q .0, search (and-l, and-r), search (and-l, and-r))
 
   pub initial-i : WellFormed v → InitialRelated v → T (initialRelated v)
   unfolding initialRelated
@@ -103,7 +105,8 @@ pub labels-i : (v : View) → LabelsEqual v → T (labelsEqual v)
 unfolding labelsEqual
 labels-i v h = pairs-i v _ λ s t p. eq→eqb _ _ (h s t p)
 
--- Demand 2, which certificates: the judge accepts exactly where the initial states are related, the labels are equal, and every obligation of both sides meets 2a, 2b or 2c
+-- Demand 2, which certificates: the judge accepts exactly where the initial states are related, the labels are equal,
+-- and every obligation of both sides meets 2a, 2b or 2c
 pub accepts-iff : (v : View) → WellFormed v → (r : Ranks) → T (accepts v r) ↔ Certified Meets v r
 unfolding accepts
 accepts-iff v w r = (

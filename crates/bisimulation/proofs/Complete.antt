@@ -22,7 +22,7 @@ use Rattle.bisimulation.proofs.ClauseLaws.{flip-formed, pairs-i, initia
 use Rattle.bisimulation.proofs.RunLaws.{run-matches, matched-iff, chain-some}
 
 module _ (v : View) where
-  open View v using (own, other, related, answers)
+  open View v using (own, other, related, serves)
 
   mid-step : (s : ℕ) (J : List ℕ) (j : ℕ) (L : List ℕ) → StepPath own s (J ++ (j ∷ L)) → own .from j ≡ endState own s J
   mid-step s [] j L p = p .1
@@ -36,15 +36,17 @@ module _ (v : View) where
   last-all P s [] p = p .0
   last-all P s (i ∷ J) p = last-all P (own .to i) J (p .1)
 
-  firsts : (t : ℕ) (ys J : List ℕ) → All (λ j. T (own .silent j)) J → AllRelated v (map (own .to) J) (t ∷ ys) → All (λ j. T (own .silent j) × T (related (own .to j) t)) J
+  firsts : (t : ℕ) (ys J : List ℕ) → All (λ j. T (own .silent j)) J → AllRelated v (map (own .to) J) (t ∷ ys)
+      → All (λ j. T (own .silent j) × T (related (own .to j) t)) J
   firsts t ys [] q a = tt
   firsts t ys (i ∷ J) q a = ((q .0, a .0 .0), firsts t ys J (q .1) (a .1))
 
-  -- steps that have an answer are one block, or one of them is matched
+  -- steps that have an serve are one block, or one of them is matched
   abbrev pub Crossed : (ℕ → Type 0) → ℕ → List ℕ → Type 0
   Crossed P t J = ((length J < own .states) × All (λ j. T (own .silent j) × T (related (own .to j) t)) J) ⊎ ((j : ℕ) × P j × T (matched v j t))
 
-  cut-cross : (P : ℕ → Type 0) (s t : ℕ) (J : List ℕ) (Js : List (List ℕ)) (K : List ℕ) (Ks : List (List ℕ)) → StepPath own s (J ++ flatten Js) → All P (J ++ flatten Js)
+  cut-cross : (P : ℕ → Type 0) (s t : ℕ) (J : List ℕ) (Js : List (List ℕ)) (K : List ℕ) (Ks : List (List ℕ))
+      → StepPath own s (J ++ flatten Js) → All P (J ++ flatten Js)
       → StepPath other t (K ++ flatten Ks) → First v s J t K → Later v Js Ks → Crossed P t (J ++ flatten Js)
   unfolding matched flatten
   cut-cross P s t J [] K [] p a q f l = rw append-nil (inl (f .small, firsts t (map (other .to) K) J (f .inside) (f .all-related .1)))
@@ -57,14 +59,17 @@ module _ (v : View) where
         j,
         mid-all P J j _ a,
         any-i _ _ (length K) (f .small′)
-            (run-matches v j t K k _ q (f .inside′) (rw (mid-step s J j _ p) (last-all (λ x. All (λ y. T (related x y)) (t ∷ map (other .to) K)) s J (f .all-related))) (l .0) (l .1 .all-related .0 .0)),
+            (run-matches v j t K k _ q (f .inside′)
+            (rw (mid-step s J j _ p) (last-all (λ x. All (λ y. T (related x y)) (t ∷ map (other .to) K)) s J (f .all-related)))
+            (l .0) (l .1 .all-related .0 .0)),
       )
 
   pub cross : (P : ℕ → Type 0) (s t : ℕ) (J : List ℕ) → StepPath own s J → All P J → (x : Cut) × Fits v s J t x → Crossed P t J
   cross P s t J p a (x, f) =
       let g = fits-fitted v s J t x f in
       subst (Crossed P t) (g .cut)
-      (cut-cross P s t (x .first) (x .later) (x .first′) (x .later′) (subst (StepPath own s) (sym (g .cut)) p) (subst (All P) (sym (g .cut)) a) (g .path) (g .firsts) (g .laters))
+      (cut-cross P s t (x .first) (x .later) (x .first′) (x .later′)
+      (subst (StepPath own s) (sym (g .cut)) p) (subst (All P) (sym (g .cut)) a) (g .path) (g .firsts) (g .laters))
 
   module _ (paths : StepPathsMatched v) where
     pub matched-none-unmatched : T (noneUnmatched v)

@@ -13,7 +13,19 @@ use lib.ListN.{getD}
 use Rattle.lists.specs.Below.{anyBelow, allBelow, firstBelow, mostBelow}
 use Rattle.bisimulation.specs.Counterexample.{twoStates, twoRows, twoTwo}
 use Rattle.bisimulation.specs.Judge.{is2a, is2b, is2c, isMet, allPairs, allStepsFrom, initialRelated, labelsEqual, obligationsMet, accepts}
-use Rattle.bisimulation.specs.Maker.{matchesWithin, matched, distance, stutters, chainLength, stutterRank, matchRank, made, noneUnmatched, noneEndless, succeeds}
+use Rattle.bisimulation.specs.Maker.{
+  matchesWithin,
+  matched,
+  distance,
+  mayChain,
+  chainAlong,
+  stutterRank,
+  matchRank,
+  made,
+  noneUnmatched,
+  noneEndless,
+  succeeds,
+}
 use Rattle.bisimulation.specs.Namjoshi.{joint, Related, Bisimulation}
 use Rattle.bisimulation.specs.Systems.{Step, WellFormed, Plain}
 use Rattle.bisimulation.specs.Triples.{ownRank, tripleRank, raised}
@@ -21,12 +33,16 @@ use Rattle.bisimulation.proofs.NamjoshiTheorems.{accepted-bisimulation}
 
 -- document 01's judge accepts
 pub two-accepted : accepts twoTwo (made twoTwo) ≡ true
-unfolding accepts initialRelated labelsEqual obligationsMet allPairs allStepsFrom isMet is2a is2b is2c stutterRank matchRank distance matched stutters chainLength matchesWithin anyBelow allBelow mostBelow firstBelow twoStates twoRows twoTwo
+unfolding
+    accepts initialRelated labelsEqual obligationsMet allPairs allStepsFrom isMet is2a is2b is2c
+    stutterRank matchRank distance matched mayChain chainAlong matchesWithin anyBelow allBelow mostBelow firstBelow twoStates twoRows twoTwo
 two-accepted = refl
 
 -- the maker succeeds, so a judge with the paper's 2c would refuse what the maker writes here
 pub two-made : succeeds twoTwo ≡ true
-unfolding succeeds initialRelated labelsEqual noneUnmatched noneEndless allPairs allStepsFrom matched stutters chainLength matchesWithin is2a anyBelow allBelow mostBelow twoStates twoRows twoTwo
+unfolding
+    succeeds initialRelated labelsEqual noneUnmatched noneEndless allPairs allStepsFrom matched mayChain chainAlong
+    matchesWithin is2a anyBelow allBelow mostBelow twoStates twoRows twoTwo
 two-made = refl
 
 -- the only step from 0 enters 1
@@ -38,8 +54,11 @@ only-step x (suc (suc j), l, e, f) = omega arith
 
 -- the pair (0, 0) and the left step from 0 to 1: 2a fails, 1 is related to 0 so the paper's 2c is shut, and both A ranks are 0
 pub two-not-literal : Bisimulation twoTwo _<_ (tripleRank twoTwo (made twoTwo)) → ⊥
-unfolding twoStates twoRows twoTwo ownRank stutterRank matched stutters chainLength matchesWithin is2a anyBelow mostBelow
-two-not-literal b = ⊎-elim (λ a. not-2a (a .0) (a .1) (a .2)) (λ a. ⊎-elim (λ c. not-suc-le-zero (c .1)) (λ c. c .0 tt) a) (b .clause2 s t tt u (0, suc-le-suc zero-le, refl, refl))
+unfolding twoStates twoRows twoTwo ownRank stutterRank matched mayChain chainAlong matchesWithin is2a anyBelow mostBelow
+two-not-literal b =
+    ⊎-elim (λ a. not-2a (a .0) (a .1) (a .2))
+    (λ a. ⊎-elim (λ c. not-suc-le-zero (c .1)) (λ c. c .0 tt) a)
+    (b .clause2 s t tt u (0, suc-le-suc zero-le, refl, refl))
   where
     s : joint twoTwo .S
     s = inl (0, suc-le-suc zero-le)
@@ -78,13 +97,25 @@ two-formed : WellFormed twoTwo
 unfolding twoStates twoRows twoTwo
 two-formed =
     record {
-      here = record { from< = λ j l. ends-small 0 1 j l (omega arith) (omega arith); to< = λ j l. ends-small 1 0 j l (omega arith) (omega arith); related< = λ s t h. rows-small s t h .0; initial< = two-initial; quiet = λ j k a b. tt };
-      there = record { from< = λ j l. ends-small 0 1 j l (omega arith) (omega arith); to< = λ j l. ends-small 1 0 j l (omega arith) (omega arith); related< = λ t s h. rows-small s t h .1; initial< = two-initial; quiet = λ j k a b. tt };
+      here = record {
+        from< = λ j l. ends-small 0 1 j l (omega arith) (omega arith);
+        to< = λ j l. ends-small 1 0 j l (omega arith) (omega arith);
+        related< = λ s t h. rows-small s t h .0;
+        initial< = two-initial;
+        quiet = λ j k a b. tt;
+      };
+      there = record {
+        from< = λ j l. ends-small 0 1 j l (omega arith) (omega arith);
+        to< = λ j l. ends-small 1 0 j l (omega arith) (omega arith);
+        related< = λ t s h. rows-small s t h .1;
+        initial< = two-initial;
+        quiet = λ j k a b. tt;
+      };
     }
 
 two-plain : Plain twoTwo
 unfolding twoStates twoRows twoTwo
-two-plain = record { silent = λ j. tt; silent′ = λ j. tt; answers = λ j k. tt }
+two-plain = record { silent = λ j. tt; silent′ = λ j. tt; serves = λ j k. tt }
 
 pub two-bisimulation : Bisimulation twoTwo _<_ (tripleRank twoTwo (raised twoTwo (made twoTwo)))
 two-bisimulation = accepted-bisimulation twoTwo two-formed two-plain (made twoTwo) (subst T (sym two-accepted) tt) .1

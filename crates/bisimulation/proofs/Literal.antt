@@ -5,7 +5,6 @@
 use Prim.Native.Nat.{ℕ, suc, _≤_, _<_}
 use mathlib.Core.Path.{_≡_}
 use mathlib.Core.Logic.{_↔_, _⊎_, inl, inr, ⊎-elim}
-use mathlib.Core.Bool.{_&&_}
 use native.Mathlib.Omega.{arith}
 use lib.Dec.{T, eqb→eq}
 use Rattle.lists.specs.Below.{mostBelow}
@@ -14,7 +13,7 @@ use Rattle.lists.proofs.BoolLaws.{and-l, and-r, and-i, T-dec, eq→eqb, cond-tr
 use Rattle.bisimulation.specs.Clauses.{Meets2a, Meets, MeetsLiterally, EveryObligation, Certified}
 use Rattle.bisimulation.specs.Judge.{is2a, accepts}
 use Rattle.bisimulation.specs.Maker.{made}
-use Rattle.bisimulation.specs.Systems.{View, flip, Ranks, swap, Bytes, WellFormed}
+use Rattle.bisimulation.specs.Systems.{View, flip, Ranks, swap, Bytes, WellFormed, stays, Stays}
 use Rattle.bisimulation.specs.Triples.{ahead, raisedRank, raised}
 use Rattle.bisimulation.proofs.ClauseLaws.{flip-formed, is2a-e, is2a-i, accepts-iff}
 use Rattle.bisimulation.proofs.Equivalences.{succeeds-iff-bytes}
@@ -22,13 +21,15 @@ use Rattle.bisimulation.proofs.Made.{made-small, made-accepted}
 
 certified-map : (P Q : View → Ranks → ℕ → ℕ → Type 0) (v : View) (r q : Ranks) → (EveryObligation P v r → EveryObligation Q v q)
     → (EveryObligation P (flip v) (swap r) → EveryObligation Q (flip v) (swap q)) → Certified P v r → Certified Q v q
-certified-map P Q v r q f g c = record { initial = c .initial; initial′ = c .initial′; labels = c .labels; own-met = f (c .own-met); other-met = g (c .other-met) }
+certified-map P Q v r q f g c =
+    record { initial = c .initial; initial′ = c .initial′; labels = c .labels; own-met = f (c .own-met); other-met = g (c .other-met) }
 
 module _ (v : View) (w : WellFormed v) (r : Ranks) where
   open View v using (own, other, related)
 
   -- the raised rank of a state with nothing ahead is below that of one with something ahead, and of one with a greater rank
-  raised-falls : (s u t : ℕ) → u < own .states → (T (ahead v u t) → ⊥) → T (ahead v s t) ⊎ (r .stutter u t < r .stutter s t) → raisedRank v r u t < raisedRank v r s t
+  raised-falls : (s u t : ℕ) → u < own .states → (T (ahead v u t) → ⊥)
+      → T (ahead v s t) ⊎ (r .stutter u t < r .stutter s t) → raisedRank v r u t < raisedRank v r s t
   unfolding raisedRank
   raised-falls s u t l h c =
       let top = suc (mostBelow (own .states) (λ x. r .stutter x t)) in
@@ -50,7 +51,7 @@ module _ (v : View) (w : WellFormed v) (r : Ranks) where
   unfolding ahead
   ahead-i s t k l e q h = any-i _ _ k l (search (and-i, eq→eqb))
 
-  -- a silent step with no answer by 2a enters a state with nothing ahead
+  -- a silent step with no serve by 2a enters a state with nothing ahead
   not-ahead : (j t : ℕ) → T (own .silent j) → (Meets2a v j t → ⊥) → T (ahead v (own .to j) t) → ⊥
   unfolding ahead
   not-ahead j t q n h =
@@ -63,13 +64,17 @@ module _ (v : View) (w : WellFormed v) (r : Ranks) where
     where
       go : (Meets2a v j t → ⊥) → Meets v r j t → MeetsLiterally v (raised v r) j t
       go n (inl a) = absurd (n a)
-      go n (inr (inl a)) = inr (inl (a .0, a .1, raised-falls (own .from j) (own .to j) t (w .here .to< j l) (not-ahead j t (a .0) n) (inr (a .2))))
+      go n (inr (inl a)) = inr (inl (a .0, raised-falls (own .from j) (own .to j) t (w .here .to< j l) (not-ahead j t (a .0 .0) n) (inr (a .1))))
       go n (inr (inr a)) =
           ⊎-elim
           (λ b.
-          let c : T (own .silent j) × T (related (own .to j) t) = (and-l (own .silent j) _ b, and-r (own .silent j) _ b) in
-          inr (inl (c .0, c .1, raised-falls (own .from j) (own .to j) t (w .here .to< j l) (not-ahead j t (c .0) n) (inl (ahead-i (own .from j) t (a .0) (a .1) (a .2) (a .3) (a .4))))))
-          (λ b. inr (inr (λ c. b (and-i (own .silent j) (related (own .to j) t) (c .0) (c .1)), a))) (T-dec (own .silent j && related (own .to j) t))
+          let c : Stays v j t = (and-l (own .silent j) _ b, and-r (own .silent j) _ b) in
+          inr (inl (
+            c,
+            raised-falls (own .from j) (own .to j) t (w .here .to< j l) (not-ahead j t (c .0) n)
+                (inl (ahead-i (own .from j) t (a .0) (a .1) (a .2) (a .3) (a .4))),
+          )))
+          (λ b. inr (inr (λ c. b (and-i (own .silent j) (related (own .to j) t) (c .0) (c .1)), a))) (T-dec (stays v j t))
 
   literal-meets : EveryObligation MeetsLiterally v r → EveryObligation Meets v r
   literal-meets D j t l h = ⊎-elim (λ a. inl a) (λ a. inr (⊎-elim (λ b. inl b) (λ b. inr (b .1)) a)) (D j t l h)
@@ -77,11 +82,15 @@ module _ (v : View) (w : WellFormed v) (r : Ranks) where
 module _ (v : View) (w : WellFormed v) where
   -- an accepted certificate meets the paper's clauses once its A ranks are raised
   pub accepted-literal : (r : Ranks) → T (accepts v r) → Certified MeetsLiterally v (raised v r)
-  accepted-literal r h = certified-map Meets MeetsLiterally v r (raised v r) (raised-literal v w r) (raised-literal (flip v) (flip-formed v w) (swap r)) (accepts-iff v w r .0 h)
+  accepted-literal r h =
+      certified-map Meets MeetsLiterally v r (raised v r) (raised-literal v w r)
+      (raised-literal (flip v) (flip-formed v w) (swap r)) (accepts-iff v w r .0 h)
 
   -- ranks that meet the paper's clauses are accepted as they stand
   pub literal-accepted : (r : Ranks) → Certified MeetsLiterally v r → T (accepts v r)
-  literal-accepted r h = accepts-iff v w r .1 (certified-map MeetsLiterally Meets v r r (literal-meets v w r) (literal-meets (flip v) (flip-formed v w) (swap r)) h)
+  literal-accepted r h =
+      accepts-iff v w r .1
+      (certified-map MeetsLiterally Meets v r r (literal-meets v w r) (literal-meets (flip v) (flip-formed v w) (swap r)) h)
 
   -- some byte ranks are accepted exactly where some byte ranks meet the paper's clauses
   pub accepted-iff-literal : v .own .states ≤ 64 → v .other .states ≤ 64

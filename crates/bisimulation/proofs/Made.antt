@@ -12,17 +12,30 @@ use Rattle.lists.proofs.BelowLaws.{any-e, most-le, first-le}
 use Rattle.lists.proofs.BoolLaws.{and-l, and-r, and-i, or-e, T-dec, cond-true, cond-false, cond-upto}
 use Rattle.bisimulation.specs.Clauses.{Meets, EveryObligation}
 use Rattle.bisimulation.specs.Judge.{is2a, accepts}
-use Rattle.bisimulation.specs.Maker.{matchesWithin, matched, distance, stutters, chainLength, stutterRank, matchRank, made, noneUnmatched, noneEndless, succeeds}
+use Rattle.bisimulation.specs.Maker.{
+  matchesWithin,
+  matched,
+  distance,
+  mayChain,
+  chainAlong,
+  chainLength,
+  stutterRank,
+  matchRank,
+  made,
+  noneUnmatched,
+  noneEndless,
+  succeeds,
+}
 use Rattle.bisimulation.specs.Systems.{View, flip, Bytes, WellFormed}
 use Rattle.bisimulation.proofs.ClauseLaws.{flip-formed, pairs-e, initial-e, steps-e, is2a-e, labels-e, accepts-iff}
 use Rattle.bisimulation.proofs.RunLaws.{within-related, matched-e, inChain, chain-step}
 
 module _ (v : View) where
-  open View v using (own, other, related, answers)
+  open View v using (own, other, related, serves)
 
   -- where the longest chain is shorter than the bound, one less is enough
   chain-stable : (t k s : ℕ) → chainLength v t (suc k) s ≤ k → chainLength v t (suc k) s ≤ chainLength v t k s
-  unfolding chainLength
+  unfolding chainAlong
   chain-stable t zero s h = h
   chain-stable t (suc k) s h =
       most-le _ _ _ λ j l. cond-upto (inChain v t s j) (suc (chainLength v t (suc k) (own .to j))) (chainLength v t (suc k) s) λ b.
@@ -30,7 +43,8 @@ module _ (v : View) where
       let q = chain-step v t k s j l b in
       omega (arith, chain-stable t k (own .to j) (omega arith))
 
-  falls : (t N s j : ℕ) → j < own .steps → T (eqb (own .from j) s && stutters v t j) → chainLength v t N (own .to j) < N → chainLength v t N (own .to j) < chainLength v t N s
+  falls : (t N s j : ℕ) → j < own .steps → T (eqb (own .from j) s && mayChain v t j)
+      → chainLength v t N (own .to j) < N → chainLength v t N (own .to j) < chainLength v t N s
   falls t zero s j l b h = omega arith
   falls t (suc k) s j l b h = omega (arith, chain-stable t k (own .to j) (omega arith), chain-step v t k s j l b)
 
@@ -61,21 +75,20 @@ module _ (v : View) where
           )))
           (or-e (is2a v j t) _ (and-r (related (own .from j) t) _ p))
 
-  met-stuttering : (j t : ℕ) → j < own .steps → T (stutters v t j) → chainLength v t (own .states) (own .to j) < own .states → T (related (own .from j) t)
+  met-stuttering : (j t : ℕ) → j < own .steps → T (mayChain v t j) → chainLength v t (own .states) (own .to j) < own .states → T (related (own .from j) t)
       → Meets v (made v) j t
-  unfolding stutterRank stutters
+  unfolding stutterRank mayChain
   met-stuttering j t l h b r =
       let u : T (related (own .to j) t) = search (and-l, and-r) in
       inr (inl (
-        search (and-l, and-r),
-        u,
+        (search (and-l, and-r), u),
         rw (cond-true (related (own .to j) t) _ _ u, cond-true (related (own .from j) t) _ _ r)
-            (omega (arith, falls t (own .states) (own .from j) j l (and-i (eqb (own .from j) (own .from j)) (stutters v t j) (eqb-refl (own .from j)) h) b)),
+            (omega (arith, falls t (own .states) (own .from j) j l (and-i (eqb (own .from j) (own .from j)) (mayChain v t j) (eqb-refl (own .from j)) h) b)),
       ))
 
   module _ (w : WellFormed v) (a : T (noneUnmatched v)) (b : T (noneEndless v)) where
     side-met : EveryObligation Meets v (made v)
-    unfolding noneUnmatched noneEndless stutters
+    unfolding noneUnmatched noneEndless mayChain
     side-met j t l r =
         ⊎-elim (λ h. met-matched j t h)
         (λ h.
@@ -89,8 +102,14 @@ module _ (v : View) where
     ranks-small : (N : ℕ) → 0 < N → own .states ≤ N → other .states ≤ N → ((s t : ℕ) → stutterRank v s t < N) × ((j t : ℕ) → matchRank v j t < N)
     unfolding stutterRank matchRank noneEndless
     ranks-small N p m n = (
-      λ s t. ⊎-elim (λ h. rw (cond-true (related s t) _ _ h) (omega (arith, ltb→lt (chainLength v t (own .states) s) (own .states) (pairs-e v w _ b s t h)))) (λ h. rw (cond-false (related s t) _ _ h) p) (T-dec (related s t)),
-      λ j t. ⊎-elim (λ h. rw (cond-true (matched v j t) _ _ h) (omega (arith, matched-e v j t h .0))) (λ h. rw (cond-false (matched v j t) _ _ h) p) (T-dec (matched v j t)),
+      λ s t. ⊎-elim
+          (λ h. rw (cond-true (related s t) _ _ h) (omega (arith, ltb→lt (chainLength v t (own .states) s) (own .states) (pairs-e v w _ b s t h))))
+          (λ h. rw (cond-false (related s t) _ _ h) p)
+          (T-dec (related s t)),
+      λ j t. ⊎-elim
+          (λ h. rw (cond-true (matched v j t) _ _ h) (omega (arith, matched-e v j t h .0)))
+          (λ h. rw (cond-false (matched v j t) _ _ h) p)
+          (T-dec (matched v j t)),
     )
 
 module _ (v : View) (w : WellFormed v) (h : T (succeeds v)) where
@@ -107,7 +126,8 @@ module _ (v : View) (w : WellFormed v) (h : T (succeeds v)) where
 
   -- the ranks that it made are below 64, so they are bytes
   pub made-small : v .own .states ≤ 64 → v .other .states ≤ 64
-      → ((s t : ℕ) → made v .stutter s t < 64) × ((j t : ℕ) → made v .match j t < 64) × ((t s : ℕ) → made v .stutter′ t s < 64) × ((k s : ℕ) → made v .match′ k s < 64)
+      → ((s t : ℕ) → made v .stutter s t < 64) × ((j t : ℕ) → made v .match j t < 64)
+      × ((t s : ℕ) → made v .stutter′ t s < 64) × ((k s : ℕ) → made v .match′ k s < 64)
   unfolding succeeds
   made-small a b =
       let l = ranks-small v w (search (and-l, and-r)) (search (and-l, and-r)) 64 (omega arith) a b in

@@ -26,7 +26,21 @@ use Rattle.bisimulation.proofs.Literal.{accepted-literal, literal-accep
 use Rattle.bisimulation.proofs.Made.{made-accepted}
 use Rattle.bisimulation.proofs.Pigeonhole.{no-descent}
 use Rattle.bisimulation.proofs.PlainPaths.{flip-plain}
-use Rattle.bisimulation.proofs.Sides.{clauses-map, Side2a, Side2b, Side2cOpen, Side2c, Met, OneSide, onLeft, onRight, open-sides, literal-sides, side-none-unmatched, side-none-endless}
+use Rattle.bisimulation.proofs.Sides.{
+  clauses-map,
+  Side2a,
+  Side2b,
+  Side2cOpen,
+  Side2c,
+  Met,
+  OneSide,
+  onLeft,
+  onRight,
+  open-sides,
+  literal-sides,
+  side-none-unmatched,
+  side-none-endless,
+}
 
 step-of : (X : System) (s u : ℕ) → Step X s u → (stepOf X s u < X .steps) × (X .from (stepOf X s u) ≡ s) × (X .to (stepOf X s u) ≡ u)
 unfolding stepOf
@@ -66,13 +80,13 @@ module _ (v : View) (w : WellFormed v) (k : Plain v) (r : Ranks) where
     at-2a : Meets2a v j t ↔ Side2a v _<_ ρ s₁ t₁ u₁
     at-2a = (
       λ a. ((other .to (a .0), w .there .to< (a .0) (a .1)), (a .0, a .1, a .2, refl), a .4),
-      λ a. let e = a .1 in (e .0, e .1, e .2, k .answers j (e .0), rw (e .3) (a .2)),
+      λ a. let e = a .1 in (e .0, e .1, e .2, k .serves j (e .0), rw (e .3) (a .2)),
     )
 
     at-2b : Meets2b v r j t ↔ Side2b v _<_ ρ s₁ t₁ u₁
     at-2b = (
-      λ a. (a .1, rw (rank-same v r (own .to j) t, rank-same v r (own .from j) t) (a .2)),
-      λ a. (k .silent j, a .0, rw (rank-same v r (own .to j) t, rank-same v r (own .from j) t) at (a .1)),
+      λ a. (a .0 .1, rw (rank-same v r (own .to j) t, rank-same v r (own .from j) t) (a .1)),
+      λ a. ((k .silent j, a .0), rw (rank-same v r (own .to j) t, rank-same v r (own .from j) t) at (a .1)),
     )
 
     rank-is : ¬ (own .to j ≡ own .from j) → (x : ℕ) → ownRank v r (own .to j) (own .from j) x ≡ r .match j x
@@ -89,7 +103,7 @@ module _ (v : View) (w : WellFormed v) (k : Plain v) (r : Ranks) where
     open-at : T (related (own .from j) t) → Meets v r j t ↔ Met v _<_ ρ (Side2cOpen v _<_ ρ) s₁ t₁ u₁
     open-at h = (
       clauses-map (at-2a .0) (at-2b .0) λ c. elim (ℕ-discrete (own .to j) (own .from j)) [
-        | yes f ↦ inl (at-2a .0 (c .0, c .1, c .2, k .answers j (c .0), rw f (c .4)))
+        | yes f ↦ inl (at-2a .0 (c .0, c .1, c .2, k .serves j (c .0), rw f (c .4)))
         | no n ↦ inr (inr (at-2c n .0 c))
       ],
       clauses-map (at-2a .1) (at-2b .1) λ c. elim (ℕ-discrete (own .to j) (own .from j)) [
@@ -164,14 +178,16 @@ module _ (v : View) (w : WellFormed v) (k : Plain v) where
   certified-of Clauses r p m f g = let i = initial-by-number v w p in record { initial = i .0; initial′ = i .1; labels = m; own-met = f; other-met = g }
 
   -- Demand 2, how the two meet, from the paper to document 01: a certificate of which the paper's clauses hold literally is accepted
-  pub bisimulation-accepted : NoTwice (v .own) → NoTwice (v .other) → (r : Ranks) → InitialStatesRelated v → Bisimulation v _<_ (tripleRank v r) → T (accepts v r)
+  pub bisimulation-accepted : NoTwice (v .own) → NoTwice (v .other) → (r : Ranks)
+      → InitialStatesRelated v → Bisimulation v _<_ (tripleRank v r) → T (accepts v r)
   bisimulation-accepted o o′ r p b =
       let q = literal-sides v _<_ (tripleRank v r) w .0 b in
       let f = side-literal v w k r o (q .1) in
       let g = side-literal (flip v) (flip-formed v w) (flip-plain v k) (swap r) o′ (q .2) in
       literal-accepted v w r (certified-of MeetsLiterally r p (q .0) f g)
 
-  -- Demand 2, how the two meet, from document 01 to the paper: an accepted certificate's ranks, once the A ranks are raised, satisfy the paper's clauses literally
+  -- Demand 2, how the two meet, from document 01 to the paper: an accepted certificate's ranks, once the A ranks are raised,
+  -- satisfy the paper's clauses literally
   pub accepted-bisimulation : (r : Ranks) → T (accepts v r) → InitialStatesRelated v × Bisimulation v _<_ (tripleRank v (raised v r))
   accepted-bisimulation r h =
       let c = accepted-literal v w r h in
@@ -193,7 +209,9 @@ module _ (v : View) (w : WellFormed v) (k : Plain v) where
       )
 
   -- whatever the order and the rank, the maker succeeds
-  pub bisimulation-succeeds : {W : Type 0} (≺ : W → W → Type 0) → NoDescent ≺ → (rank : joint v .S → joint v .S → joint v .S → W) → InitialStatesRelated v → Bisimulation v ≺ rank → T (succeeds v)
+  pub bisimulation-succeeds : {W : Type 0} (≺ : W → W → Type 0) → NoDescent ≺
+      → (rank : joint v .S → joint v .S → joint v .S → W)
+      → InitialStatesRelated v → Bisimulation v ≺ rank → T (succeeds v)
   unfolding succeeds
   bisimulation-succeeds ≺ nd rank p b =
       let z = initial-by-number v w p in
@@ -207,8 +225,10 @@ module _ (v : View) (w : WellFormed v) (k : Plain v) where
       let f = side-none-endless (flip v) (flip-formed v w) (flip-plain v k) ≺ nd (onRight v ≺ rank) (q .2) in
       search and-i
 
-  -- Demand 2, which relations: some certificate with byte ranks is accepted exactly where the relation is a well-founded bisimulation with initial states related
-  pub accepted-iff-bisimulation : v .own .states ≤ 64 → v .other .states ≤ 64 → ((r : Ranks) × Bytes r × T (accepts v r)) ↔ (InitialStatesRelated v × SomeRank v)
+  -- Demand 2, which relations: some certificate with byte ranks is accepted exactly where the relation is a well-founded bisimulation
+  -- with initial states related
+  pub accepted-iff-bisimulation : v .own .states ≤ 64 → v .other .states ≤ 64
+      → ((r : Ranks) × Bytes r × T (accepts v r)) ↔ (InitialStatesRelated v × SomeRank v)
   accepted-iff-bisimulation a b = (
     λ p. let q = accepted-bisimulation (p .0) (p .2) in (q .0, (ℕ, _<_, no-descent, tripleRank v (raised v (p .0)), q .1)),
     λ p. succeeds-iff-bytes v w a b .0 (bisimulation-succeeds (p .1 .1) (p .1 .2) (p .1 .3) (p .0) (p .1 .4)),
@@ -218,5 +238,7 @@ module _ (v : View) (w : WellFormed v) (k : Plain v) where
   pub bisimulation-iff-property : (InitialStatesRelated v × SomeRank v) ↔ PathProperty v
   bisimulation-iff-property = (
     λ p. succeeds-iff-property v w k .0 (bisimulation-succeeds (p .1 .1) (p .1 .2) (p .1 .3) (p .0) (p .1 .4)),
-    λ p. let q = accepted-bisimulation (made v) (made-accepted v w (succeeds-iff-property v w k .1 p)) in (q .0, (ℕ, _<_, no-descent, tripleRank v (raised v (made v)), q .1)),
+    λ p.
+        let q = accepted-bisimulation (made v) (made-accepted v w (succeeds-iff-property v w k .1 p)) in
+        (q .0, (ℕ, _<_, no-descent, tripleRank v (raised v (made v)), q .1)),
   )

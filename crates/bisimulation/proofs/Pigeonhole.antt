@@ -41,7 +41,11 @@ moved-is n c x = go (eqb x n) (λ h. eqb→eq x n h) (λ e. eq→eqb x n e)
 
 pub pigeon : (n : ℕ) (f : ℕ → ℕ) → ((i : ℕ) → i ≤ n → f i < n) → (a b : ℕ) × (a < b) × (b ≤ n) × (f a ≡ f b)
 pigeon zero f h = absurd (not-suc-le-zero (h 0 zero-le))
-pigeon (suc n) f h = ⊎-elim (λ y. let q = any-e (suc n) _ y in (q .0, suc n, q .1, le-refl _, eqb→eq _ _ (q .2))) (λ z. again (none z) (pigeon n (λ i. moved n c (f i)) (λ i l. low (none z) i l))) (T-dec (anyBelow (suc n) (λ i. eqb (f i) (f (suc n)))))
+pigeon (suc n) f h =
+    ⊎-elim
+    (λ y. let q = any-e (suc n) _ y in (q .0, suc n, q .1, le-refl _, eqb→eq _ _ (q .2)))
+    (λ z. again (none z) (pigeon n (λ i. moved n c (f i)) (λ i l. low (none z) i l)))
+    (T-dec (anyBelow (suc n) (λ i. eqb (f i) (f (suc n)))))
   where
     c : ℕ
     c = f (suc n)
@@ -56,8 +60,18 @@ pigeon (suc n) f h = ⊎-elim (λ y. let q = any-e (suc n) _ y in (q .0, suc n, 
         let z = h i (omega arith) in
         ⊎-elim (λ e. omega arith) (λ e. omega arith) (moved-is n c (f i))
 
-    again : ((i : ℕ) → i ≤ n → f i ≢ f (suc n)) → (a b : ℕ) × (a < b) × (b ≤ n) × (moved n c (f a) ≡ moved n c (f b)) → (a b : ℕ) × (a < b) × (b ≤ suc n) × (f a ≡ f b)
+    again : ((i : ℕ) → i ≤ n → f i ≢ f (suc n))
+        → (a b : ℕ) × (a < b) × (b ≤ n) × (moved n c (f a) ≡ moved n c (f b))
+        → (a b : ℕ) × (a < b) × (b ≤ suc n) × (f a ≡ f b)
     again ne (a, b, l, k, e) =
         let x = ne a (omega arith) in
-        let y = ne b k in
-        (a, b, l, omega arith, ⊎-elim (λ p. ⊎-elim (λ q. omega arith) (λ q. omega arith) (moved-is n c (f b))) (λ p. ⊎-elim (λ q. omega arith) (λ q. omega arith) (moved-is n c (f b))) (moved-is n c (f a)))
+        let y = ne b k in (
+          a,
+          b,
+          l,
+          omega arith,
+          ⊎-elim
+              (λ p. ⊎-elim (λ q. omega arith) (λ q. omega arith) (moved-is n c (f b)))
+              (λ p. ⊎-elim (λ q. omega arith) (λ q. omega arith) (moved-is n c (f b)))
+              (moved-is n c (f a)),
+        )

@@ -99,7 +99,8 @@ module _ (v : View) (w : WellFormed v) where
     silent-inside S f first later = record { in-first = all-pass _ f first; in-later = all-pass _ (λ b. all-pass _ f (tail b)) later }
 
     -- the steps of a cut of the states, where no key is asked of them
-    name-steps : (s : ℕ) (J : List ℕ) (t : ℕ) (K : List ℕ) (bs cs : List (List ℕ)) → flatten bs ≡ s ∷ map (own .to) J → flatten cs ≡ t ∷ map (other .to) K → SameBlocks v bs cs
+    name-steps : (s : ℕ) (J : List ℕ) (t : ℕ) (K : List ℕ) (bs cs : List (List ℕ)) → flatten bs ≡ s ∷ map (own .to) J
+        → flatten cs ≡ t ∷ map (other .to) K → SameBlocks v bs cs
         → StepPath other t K → (Terminal own (endState own s J) → Terminal other (endState other t K)) → (x : Cut) × Fits v s J t x
     unfolding flatten
     name-steps s J t K [] cs e f b p d = absurd (nil≢cons e)
@@ -114,7 +115,7 @@ module _ (v : View) (w : WellFormed v) where
             same = rw (g .3, g .4, h .3, h .4) b;
             silent = silent-inside own (plain .silent) (g .0) (g .1);
             silent′ = silent-inside other (plain .silent′) (h .0) (h .1);
-            entered = λ i l. plain .answers _ _;
+            entered = λ i l. plain .serves _ _;
             terminal = rw (h .2) d;
           },
         )
@@ -127,7 +128,7 @@ module _ (v : View) (w : WellFormed v) where
         (λ d. subst (Terminal other) (ap (lastState t) (sym (i .2)) ∙ last-end other (i .0) t) (r .terminal (rw (last-end own J s) d)))
 
 pub flip-plain : (v : View) → Plain v → Plain (flip v)
-flip-plain v k = record { silent = k .silent′; silent′ = k .silent; answers = λ j i. k .answers i j }
+flip-plain v k = record { silent = k .silent′; silent′ = k .silent; serves = λ j i. k .serves i j }
 
 -- for plain tables the two properties are one
 pub plain-iff-steps : (v : View) → WellFormed v → Plain v → PathProperty v ↔ StepPathProperty v

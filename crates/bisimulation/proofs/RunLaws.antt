@@ -17,19 +17,28 @@ use Rattle.lists.specs.Lists.{All}
 use Rattle.lists.proofs.BelowLaws.{any-e, any-i, most-ge, most-le, most-at, first-le, first-at}
 use Rattle.lists.proofs.BoolLaws.{and-l, and-r, and-i, or-e, or-r, eq→eqb, cond-true, cond-upto, cond-pos}
 use Rattle.bisimulation.specs.Judge.{is2a}
-use Rattle.bisimulation.specs.Maker.{matchesWithin, matched, distance, stutters, chainLength}
+use Rattle.bisimulation.specs.Maker.{matchesWithin, matched, distance, mayChain, chainAlong, chainLength}
 use Rattle.bisimulation.specs.Runs.{MatchingRun, Matched, StutteringChain}
 use Rattle.bisimulation.specs.StepPaths.{StepPath}
-use Rattle.bisimulation.specs.Systems.{View, WellFormed}
+use Rattle.bisimulation.specs.Systems.{System, View, WellFormed}
 use Rattle.bisimulation.proofs.ClauseLaws.{is2a-e, is2a-i}
 use Rattle.bisimulation.proofs.RankLaws.{lower, lower-falls, lower-bound}
 
+-- a chain of steps that pass a test has at most k steps
+pub along-bound : (S : System) (test : ℕ → Bool) (k s : ℕ) → chainAlong S test k s ≤ k
+unfolding chainAlong
+along-bound S test zero s = zero-le
+along-bound S test (suc k) s =
+    most-le _ _ _ λ j l. cond-upto (eqb (S .from j) s && test j) (suc (chainAlong S test k (S .to j))) (suc k)
+    λ h. omega (arith, along-bound S test k (S .to j))
+
 module _ (v : View) where
-  open View v using (own, other, related, answers)
+  open View v using (own, other, related, serves)
 
   -- a stretch of silent steps K from t, then k, is a run that matches j
   pub run-matches : (j t : ℕ) (K : List ℕ) (k : ℕ) (L : List ℕ) → StepPath other t (K ++ (k ∷ L)) → All (λ e. T (other .silent e)) K
-      → All (λ y. T (related (own .from j) y)) (t ∷ map (other .to) K) → T (answers j k) → T (related (own .to j) (other .to k)) → T (matchesWithin v j (length K) t)
+      → All (λ y. T (related (own .from j) y)) (t ∷ map (other .to) K)
+      → T (serves j k) → T (related (own .to j) (other .to k)) → T (matchesWithin v j (length K) t)
   unfolding matchesWithin
   run-matches j t [] k L p q a b c = and-i (related (own .from j) t) (is2a v j t) (a .0) (is2a-i v j t (k, p .0, p .1, b, c))
   run-matches j t (e ∷ K) k L p q a b c =
@@ -46,24 +55,29 @@ module _ (v : View) where
   unfolding matched distance
   matched-e j t h =
       let r = any-e _ _ h in
-      let l : r .0 < other .states = omega (arith, r .1) in
-      (omega (arith, first-le (other .states) (λ k. matchesWithin v j k t) (r .0) l (r .2)), first-at (other .states) (λ k. matchesWithin v j k t) (r .0) l (r .2))
+      let l : r .0 < other .states = omega (arith, r .1) in (
+        omega (arith, first-le (other .states) (λ k. matchesWithin v j k t) (r .0) l (r .2)),
+        first-at (other .states) (λ k. matchesWithin v j k t) (r .0) l (r .2),
+      )
 
   -- j leaves s and may stand in a chain at t
   abbrev pub inChain : ℕ → ℕ → ℕ → Bool
-  inChain t s j = eqb (own .from j) s && stutters v t j
+  inChain t s j = eqb (own .from j) s && mayChain v t j
 
   pub chain-bound : (t k s : ℕ) → chainLength v t k s ≤ k
-  unfolding chainLength
-  chain-bound t zero s = zero-le
-  chain-bound t (suc k) s = most-le _ _ _ λ j l. cond-upto (inChain t s j) (suc (chainLength v t k (own .to j))) (suc k) λ h. omega (arith, chain-bound t k (own .to j))
+  chain-bound t = along-bound own (mayChain v t)
 
   pub chain-step : (t k s j : ℕ) → j < own .steps → T (inChain t s j) → chainLength v t k (own .to j) < chainLength v t (suc k) s
-  unfolding chainLength
-  chain-step t k s j l h = omega (arith, most-ge (own .steps) (λ i. cond (inChain t s i) (suc (chainLength v t k (own .to i))) 0) j l, cond-true (inChain t s j) (suc (chainLength v t k (own .to j))) 0 h)
+  unfolding chainAlong
+  chain-step t k s j l h =
+      omega (
+        arith,
+        most-ge (own .steps) (λ i. cond (inChain t s i) (suc (chainLength v t k (own .to i))) 0) j l,
+        cond-true (inChain t s j) (suc (chainLength v t k (own .to j))) 0 h,
+      )
 
 module _ (v : View) (w : WellFormed v) (j : ℕ) where
-  open View v using (own, other, related, answers)
+  open View v using (own, other, related, serves)
 
   -- the least number of rounds at y, of at most N
   abbrev rounds : ℕ → ℕ → ℕ
@@ -86,7 +100,14 @@ module _ (v : View) (w : WellFormed v) (j : ℕ) where
       p = within-related v j (rounds N y) y h
 
       at-once : T (is2a v j y) → Unrolled N y
-      at-once a = let q = is2a-e v j y a in record { K = []; is = record { last = q .0; path = (q .1, q .2, tt); inside = tt; related = (p, tt); answers = q .3; meets = q .4 }; short = zero-le; low′ = zero-le }
+      at-once a =
+          let q = is2a-e v j y a in
+          record {
+            K = [];
+            is = record { last = q .0; path = (q .1, q .2, tt); inside = tt; related = (p, tt); serves = q .3; meets = q .4 };
+            short = zero-le;
+            low′ = zero-le;
+          }
 
       go : (c : ℕ) → rounds N y ≡ c → T (matchesWithin v j c y) → Unrolled N y
       go zero e r = at-once (and-r (related (own .from j) y) _ r)
@@ -101,7 +122,14 @@ module _ (v : View) (w : WellFormed v) (j : ℕ) where
           let i = rec (other .to k) (omega arith) (omega arith) (first-at (suc N) (λ i. matchesWithin v j i (other .to k)) c (omega arith) x) in
           record {
             K = k ∷ i .K;
-            is = record { last = i .is .last; path = (q .1, eqb→eq _ _ (search (and-l, and-r)), i .is .path); inside = (search (and-l, and-r), i .is .inside); related = (p, i .is .related); answers = i .is .answers; meets = i .is .meets };
+            is = record {
+              last = i .is .last;
+              path = (q .1, eqb→eq _ _ (search (and-l, and-r)), i .is .path);
+              inside = (search (and-l, and-r), i .is .inside);
+              related = (p, i .is .related);
+              serves = i .is .serves;
+              meets = i .is .meets;
+            };
             short = omega (arith, i .short);
             low′ = omega (arith, i .low′, lower-falls (other .states) (rounds N) (rounds N y) (other .to k) (w .there .to< k (q .1)) (omega arith));
           })
@@ -116,19 +144,29 @@ module _ (v : View) (w : WellFormed v) (j : ℕ) where
     pub shorten : (N : ℕ) → T (matchesWithin v j N t) → (K : List ℕ) × MatchingRun v j t K × (length K ≤ N) × (length K < other .states)
     shorten N h =
         let m = first-le (suc N) (λ i. matchesWithin v j i t) N (le-refl _) h in
-        let u = unroll N (suc N) t (omega arith) m (first-at (suc N) (λ i. matchesWithin v j i t) N (le-refl _) h) in
-        (u .K, u .is, omega (arith, u .short), omega (arith, u .low′, lower-bound (other .states) (rounds N) t (w .there .related< t (own .from j) (within-related v j N t h))))
+        let u = unroll N (suc N) t (omega arith) m (first-at (suc N) (λ i. matchesWithin v j i t) N (le-refl _) h) in (
+          u .K,
+          u .is,
+          omega (arith, u .short),
+          omega (
+            arith,
+            u .low′,
+            lower-bound (other .states) (rounds N) t (w .there .related< t (own .from j) (within-related v j N t h)),
+          ),
+        )
 
     matches-run : (K : List ℕ) → MatchingRun v j t K → T (matchesWithin v j (length K) t)
-    matches-run K l = run-matches v j t K (l .last) [] (l .path) (l .inside) (l .related) (l .answers) (l .meets)
+    matches-run K l = run-matches v j t K (l .last) [] (l .path) (l .inside) (l .related) (l .serves) (l .meets)
 
     -- where there is a run, the obligation is matched, and the distance is at most the run's steps inside
     pub run-matched : (K : List ℕ) → MatchingRun v j t K → T (matched v j t) × (distance v j t ≤ length K)
     unfolding matched distance
     run-matched K l =
         let s = shorten (length K) (matches-run K l) in
-        let r = matches-run (s .0) (s .1) in
-        (any-i _ (λ k. matchesWithin v j k t) (length (s .0)) (s .3) r, omega (arith, s .2, first-le (other .states) (λ k. matchesWithin v j k t) (length (s .0)) (s .3) r))
+        let r = matches-run (s .0) (s .1) in (
+          any-i _ (λ k. matchesWithin v j k t) (length (s .0)) (s .3) r,
+          omega (arith, s .2, first-le (other .states) (λ k. matchesWithin v j k t) (length (s .0)) (s .3) r),
+        )
 
     -- where it is matched, there is a run with as many steps inside as the distance
     pub matched-run : T (matched v j t) → (K : List ℕ) × MatchingRun v j t K × (length K ≡ distance v j t)
@@ -144,13 +182,13 @@ module _ (v : View) (w : WellFormed v) (t : ℕ) where
   open View v using (own, related)
 
   -- what the test of a step of a chain says, read off and put together
-  stutters-e : (j : ℕ) → T (stutters v t j) → T (own .silent j) × T (related (own .to j) t) × (¬ Matched v j t)
-  unfolding stutters
-  stutters-e j h = (search (and-l, and-r), search (and-l, and-r), λ m. T-not (matched v j t) (search (and-l, and-r)) (matched-iff v w j t .1 m))
+  may-chain-e : (j : ℕ) → T (mayChain v t j) → T (own .silent j) × T (related (own .to j) t) × (¬ Matched v j t)
+  unfolding mayChain
+  may-chain-e j h = (search (and-l, and-r), search (and-l, and-r), λ m. T-not (matched v j t) (search (and-l, and-r)) (matched-iff v w j t .1 m))
 
-  stutters-i : (j : ℕ) → T (own .silent j) → T (related (own .to j) t) → (¬ Matched v j t) → T (stutters v t j)
-  unfolding stutters
-  stutters-i j a b n = let c = not-T (matched v j t) (λ m. n (matched-iff v w j t .0 m)) in search and-i
+  may-chain-i : (j : ℕ) → T (own .silent j) → T (related (own .to j) t) → (¬ Matched v j t) → T (mayChain v t j)
+  unfolding mayChain
+  may-chain-i j a b n = let c = not-T (matched v j t) (λ m. n (matched-iff v w j t .0 m)) in search and-i
 
   -- no step, a step less, and a step more
   empty-chain : (s : ℕ) → T (related s t) → StutteringChain v t s []
@@ -169,12 +207,12 @@ module _ (v : View) (w : WellFormed v) (t : ℕ) where
   chain-most zero s (j ∷ J) c l = absurd (not-suc-le-zero l)
   chain-most (suc k) s (j ∷ J) c l =
       let i = chain-most k (own .to j) J (shorter-chain s j J c) (omega arith) in
-      let h = stutters-i j (c .silent .0) (c .related .1 .0) (c .unmatched .0) in
-      omega (arith, chain-step v t k s j (c .path .0) (and-i (eqb (own .from j) s) (stutters v t j) (eq→eqb _ _ (c .path .1)) h))
+      let h = may-chain-i j (c .silent .0) (c .related .1 .0) (c .unmatched .0) in
+      omega (arith, chain-step v t k s j (c .path .0) (and-i (eqb (own .from j) s) (mayChain v t j) (eq→eqb _ _ (c .path .1)) h))
 
   -- and one is as long
   pub chain-some : (k s : ℕ) → T (related s t) → (J : List ℕ) × StutteringChain v t s J × (length J ≡ chainLength v t k s)
-  unfolding chainLength
+  unfolding chainAlong
   chain-some zero s h = ([], empty-chain s h, refl)
   chain-some (suc k) s h = go (chainLength v t (suc k) s) refl (λ j. chain-some k (own .to j))
     where
@@ -187,7 +225,7 @@ module _ (v : View) (w : WellFormed v) (t : ℕ) where
           let r = most-at _ _ b q in
           let j = r .0 in
           let d = cond-pos (inChain v t s j) (suc (chainLength v t k (own .to j))) b (r .2) in
-          let p = stutters-e j (and-r (eqb (own .from j) s) _ (d .0)) in
+          let p = may-chain-e j (and-r (eqb (own .from j) s) _ (d .0)) in
           let i = rec j (p .1) in (
             j ∷ i .0,
             longer-chain s j (i .0) (r .1) (eqb→eq _ _ (and-l (eqb (own .from j) s) _ (d .0))) h (p .0) (p .2) (i .1),

@@ -17,7 +17,19 @@ use lib.ListN.{length}
 use Rattle.lists.specs.Lists.{All}
 use Rattle.lists.proofs.BoolLaws.{and-i, or-l, or-r, T-dec}
 use Rattle.bisimulation.specs.Maker.{matched, chainLength, noneUnmatched, noneEndless}
-use Rattle.bisimulation.specs.Namjoshi.{NoDescent, Clause2a, Clause2b, Clause2cOpen, Clause2c, BisimulationBy, State, joint, Related, Bisimulation, BisimulationWithoutConjunct}
+use Rattle.bisimulation.specs.Namjoshi.{
+  NoDescent,
+  Clause2a,
+  Clause2b,
+  Clause2cOpen,
+  Clause2c,
+  BisimulationBy,
+  State,
+  joint,
+  Related,
+  Bisimulation,
+  BisimulationWithoutConjunct,
+}
 use Rattle.bisimulation.specs.Runs.{MatchingRun, Matched, StutteringChain}
 use Rattle.bisimulation.specs.StepPaths.{StepPath}
 use Rattle.bisimulation.specs.Systems.{System, Step, View, flip, WellFormed, Plain, LabelsEqual}
@@ -175,13 +187,20 @@ module _ {ℓ κ} (v : View) (w : WellFormed v) (k : Plain v) {W : Type ℓ} (�
     (ρ : State (v .own) → State (v .own) → State (v .other) → W) (O : OneSide v ≺ ρ (Side2c v ≺ ρ)) where
   open View v using (own, other, related)
 
-  -- an answer at t is a run with no step inside, and a step before a run makes a longer one
+  -- an serve at t is a run with no step inside, and a step before a run makes a longer one
   one-run : (j t : ℕ) → T (related (own .from j) t) → (x : ℕ) × Step other t x × T (related (own .to j) x) → MatchingRun v j t []
-  one-run j t h (x, e, g) = record { last = e .0; path = (e .1, e .2, tt); inside = tt; related = (h, tt); answers = k .answers j (e .0); meets = rw (e .3) g }
+  one-run j t h (x, e, g) = record { last = e .0; path = (e .1, e .2, tt); inside = tt; related = (h, tt); serves = k .serves j (e .0); meets = rw (e .3) g }
 
   longer-run : (j y x : ℕ) (K : List ℕ) → T (related (own .from j) y) → (e : Step other y x) → MatchingRun v j x K → MatchingRun v j y (e .0 ∷ K)
   longer-run j y x K h e r =
-      record { last = r .last; path = (e .1, e .2, rw (e .3) (r .path)); inside = (k .silent′ (e .0), r .inside); related = (h, rw (e .3) (r .related)); answers = r .answers; meets = r .meets }
+      record {
+        last = r .last;
+        path = (e .1, e .2, rw (e .3) (r .path));
+        inside = (k .silent′ (e .0), r .inside);
+        related = (h, rw (e .3) (r .related));
+        serves = r .serves;
+        meets = r .meets;
+      }
 
   module _ (j : ℕ) (l : j < own .steps) where
     abbrev s₀ : State own
@@ -257,10 +276,16 @@ module _ {ℓ κ} (v : View) (w : WellFormed v) (k : Plain v) {W : Type ℓ} (�
         same : on (d .1) ≡ on (d .0)
         same = Σ-prop-path (λ x. le-prop) (sym (d .4))
 
-        next : (x : (i : ℕ) × (d .0 ≤ i) × (i < d .1)) → (y : (i : ℕ) × (d .0 ≤ i) × (i < d .1)) × ≺ (ρ (on (y .0)) (on (y .0)) t₁) (ρ (on (x .0)) (on (x .0)) t₁)
+        next : (x : (i : ℕ) × (d .0 ≤ i) × (i < d .1)) → (y : (i : ℕ) × (d .0 ≤ i) × (i < d .1))
+            × ≺ (ρ (on (y .0)) (on (y .0)) t₁) (ρ (on (x .0)) (on (x .0)) t₁)
         next x = elim (decLt (suc (x .0)) (d .1)) [
           | yes g ↦ ((suc (x .0), omega arith, g), falls (x .0) (omega (arith, d .3)))
-          | no g ↦ ((d .0, le-refl _, d .2), subst (λ z. ≺ (ρ z z t₁) (ρ (on (x .0)) (on (x .0)) t₁)) (ap on (let e : suc (x .0) ≡ d .1 = omega arith in e) ∙ same) (falls (x .0) (omega (arith, d .3))))
+          | no g ↦ (
+            (d .0, le-refl _, d .2),
+            subst (λ z. ≺ (ρ z z t₁) (ρ (on (x .0)) (on (x .0)) t₁))
+                (ap on (let e : suc (x .0) ≡ d .1 = omega arith in e) ∙ same)
+                (falls (x .0) (omega (arith, d .3))),
+          )
         ]
 
   pub side-none-endless : T (noneEndless v)

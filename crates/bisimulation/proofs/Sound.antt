@@ -25,12 +25,15 @@ use Rattle.bisimulation.proofs.ClauseLaws.{flip-formed, is2a-i, is2b-i,
 use Rattle.bisimulation.proofs.RankLaws.{lower, lower-falls, lower-bound}
 
 -- the step picked is one, and passes
-pub pick-passes : (S : System) → ((j : ℕ) → j < S .steps → S .to j < S .states) → (f : ℕ → Bool) → T (anyBelow (S .steps) f) → (smallestStep S f < S .steps) × T (f (smallestStep S f))
+pub pick-passes : (S : System) → ((j : ℕ) → j < S .steps → S .to j < S .states)
+    → (f : ℕ → Bool) → T (anyBelow (S .steps) f) → (smallestStep S f < S .steps) × T (f (smallestStep S f))
 unfolding smallestStep smallestEntered
 pick-passes S w f h =
     let q = any-e (S .steps) f h in
     let g : ℕ → Bool = λ x. anyBelow (S .steps) (λ i. f i && eqb (S .to i) x) in
-    let x = first-at (S .states) g (S .to (q .0)) (w (q .0) (q .1)) (any-i (S .steps) _ (q .0) (q .1) (and-i (f (q .0)) (eqb (S .to (q .0)) (S .to (q .0))) (q .2) (eqb-refl (S .to (q .0))))) in
+    let x =
+    first-at (S .states) g (S .to (q .0)) (w (q .0) (q .1))
+    (any-i (S .steps) _ (q .0) (q .1) (and-i (f (q .0)) (eqb (S .to (q .0)) (S .to (q .0))) (q .2) (eqb-refl (S .to (q .0))))) in
     let p = any-e (S .steps) _ x in
     let y = first-at (S .steps) (λ k. f k && eqb (S .to k) (firstBelow (S .states) g)) (p .0) (p .1) (p .2) in
     (omega (arith, p .1, first-le (S .steps) (λ k. f k && eqb (S .to k) (firstBelow (S .states) g)) (p .0) (p .1) (p .2)), search and-l)
@@ -49,51 +52,89 @@ cond-cases P false x y f g = g (λ z. z)
 
 -- the four ways to go on
 module _ (v : View) (w : WellFormed v) where
-  open View v using (own, other, related, answers)
+  open View v using (own, other, related, serves)
 
   nothing-fits : (s t : ℕ) → T (related s t) → (Terminal own s → Terminal other t) → Fitted v s [] t nothing
   unfolding flatten
   nothing-fits s t h d =
-      record { cut = refl; path = tt; firsts = record { inside = tt; inside′ = tt; small = omega (arith, w .here .related< s t h); small′ = omega (arith, w .there .related< t s h); all-related = ((h, tt), tt) }; laters = tt; terminal = d }
+      record {
+        cut = refl;
+        path = tt;
+        firsts = record {
+          inside = tt;
+          inside′ = tt;
+          small = omega (arith, w .here .related< s t h);
+          small′ = omega (arith, w .there .related< t s h);
+          all-related = ((h, tt), tt);
+        };
+        laters = tt;
+        terminal = d;
+      }
 
-  enter-fits : (s j : ℕ) (J : List ℕ) (t k : ℕ) (x : Cut) → T (related s t) → k < other .steps → other .from k ≡ t → T (answers j k) → Fitted v (own .to j) J (other .to k) x → Fitted v s (j ∷ J) t (enter j k x)
+  enter-fits : (s j : ℕ) (J : List ℕ) (t k : ℕ) (x : Cut)
+      → T (related s t) → k < other .steps → other .from k ≡ t → T (serves j k)
+      → Fitted v (own .to j) J (other .to k) x → Fitted v s (j ∷ J) t (enter j k x)
   unfolding flatten
   enter-fits s j J t k x h l e a f =
       record {
         cut = ap (λ i. j ∷ i) (f .cut);
         path = (l, e, f .path);
-        firsts = record { inside = tt; inside′ = tt; small = omega (arith, w .here .related< s t h); small′ = omega (arith, w .there .related< t s h); all-related = ((h, tt), tt) };
+        firsts = record {
+          inside = tt;
+          inside′ = tt;
+          small = omega (arith, w .here .related< s t h);
+          small′ = omega (arith, w .there .related< t s h);
+          all-related = ((h, tt), tt);
+        };
         laters = (a, f .firsts, f .laters);
         terminal = f .terminal;
       }
 
-  grow-fits : (s j : ℕ) (J : List ℕ) (t : ℕ) (x : Cut) → T (related s t) → T (own .silent j) → x .first′ ≡ [] → length (j ∷ x .first) < own .states → Fitted v (own .to j) J t x → Fitted v s (j ∷ J) t (grow j x)
+  grow-fits : (s j : ℕ) (J : List ℕ) (t : ℕ) (x : Cut)
+      → T (related s t) → T (own .silent j) → x .first′ ≡ [] → length (j ∷ x .first) < own .states
+      → Fitted v (own .to j) J t x → Fitted v s (j ∷ J) t (grow j x)
   grow-fits s j J t x h q e b f =
       record {
         cut = ap (λ i. j ∷ i) (f .cut);
         path = f .path;
-        firsts = record { inside = (q, f .firsts .inside); inside′ = f .firsts .inside′; small = b; small′ = f .firsts .small′; all-related = (rw e (h, tt), f .firsts .all-related) };
+        firsts = record {
+          inside = (q, f .firsts .inside);
+          inside′ = f .firsts .inside′;
+          small = b;
+          small′ = f .firsts .small′;
+          all-related = (rw e (h, tt), f .firsts .all-related);
+        };
         laters = f .laters;
         terminal = f .terminal;
       }
 
-  push-fits : (s : ℕ) (J : List ℕ) (t k : ℕ) (x : Cut) → T (related s t) → k < other .steps → other .from k ≡ t → T (other .silent k) → x .first ≡ [] → length (k ∷ x .first′) < other .states → Fitted v s J (other .to k) x → Fitted v s J t (push k x)
+  push-fits : (s : ℕ) (J : List ℕ) (t k : ℕ) (x : Cut)
+      → T (related s t) → k < other .steps → other .from k ≡ t → T (other .silent k) → x .first ≡ [] → length (k ∷ x .first′) < other .states
+      → Fitted v s J (other .to k) x → Fitted v s J t (push k x)
   push-fits s J t k x h l e q a b f =
       record {
         cut = f .cut;
         path = (l, e, f .path);
-        firsts = record { inside = f .firsts .inside; inside′ = (q, f .firsts .inside′); small = f .firsts .small; small′ = b; all-related = rw a (((h, f .firsts .all-related .0), tt)) };
+        firsts = record {
+          inside = f .firsts .inside;
+          inside′ = (q, f .firsts .inside′);
+          small = f .firsts .small;
+          small′ = b;
+          all-related = rw a (((h, f .firsts .all-related .0), tt));
+        };
         laters = f .laters;
         terminal = f .terminal;
       }
 
 module _ (v : View) (r : Ranks) (w : WellFormed v) (D : EveryObligation Meets v r) (D′ : EveryObligation Meets (flip v) (swap r)) where
-  open View v using (own, other, related, answers)
+  open View v using (own, other, related, serves)
 
-  cases : (P : Cut → Type 0) (j t : ℕ) (x y z : Cut) → j < own .steps → T (related (own .from j) t) → (T (is2a v j t) → P x) → ((T (is2a v j t) → ⊥) → T (is2b v r j t) → P y)
+  cases : (P : Cut → Type 0) (j t : ℕ) (x y z : Cut) → j < own .steps → T (related (own .from j) t)
+      → (T (is2a v j t) → P x) → ((T (is2a v j t) → ⊥) → T (is2b v r j t) → P y)
       → ((T (is2a v j t) → ⊥) → T (is2c v r j t) → P z) → P (choose (is2a v j t) (is2b v r j t) (is2c v r j t) x y z)
   cases P j t x y z l h f g k =
-      cond-cases P (is2a v j t) _ _ f (λ na. cond-cases P (is2b v r j t) _ _ (g na) (λ nb. cond-cases P (is2c v r j t) _ _ (k na) (λ nc. absurd (none na nb nc (D j t l h)))))
+      cond-cases P (is2a v j t) _ _ f
+      (λ na. cond-cases P (is2b v r j t) _ _ (g na) (λ nb. cond-cases P (is2c v r j t) _ _ (k na) (λ nc. absurd (none na nb nc (D j t l h)))))
     where
       none : (T (is2a v j t) → ⊥) → (T (is2b v r j t) → ⊥) → (T (is2c v r j t) → ⊥) → Meets v r j t → ⊥
       none na nb nc (inl a) = na (is2a-i v j t a)
@@ -112,7 +153,7 @@ module _ (v : View) (r : Ranks) (w : WellFormed v) (D : EveryObligation Meets v 
       → T (other .silent k) × T (related s (other .to k)) × (r .stutter′ (other .to k) s < r .stutter′ t s)
   terminal-2b s t h d k l e =
       ⊎-elim (λ q. absurd (d (q .0) (q .1) (q .2)))
-      (λ c. ⊎-elim (λ b. let q = rw e at b in (q .0, q .1, q .2)) (λ q. absurd (d (q .0) (q .1) (q .2))) c)
+      (λ c. ⊎-elim (λ b. let q = rw e at b in (q .0 .0, q .0 .1, q .1)) (λ q. absurd (d (q .0) (q .1) (q .2))) c)
       (D′ k s l (rw e h))
 
   -- it fits, and the first block has one own state, or one of the other's, and few of the opposite
@@ -126,29 +167,49 @@ module _ (v : View) (r : Ranks) (w : WellFormed v) (D : EveryObligation Meets v 
     alone : x .first′ ≡ []
     few : length (x .first) ≤ lower (own .states) (λ y. r .stutter y t) (r .stutter s t)
 
-  pushed : (f : ℕ → ℕ) (s : ℕ) (J : List ℕ) (t k : ℕ) (x : Cut) → T (related s t) → k < other .steps → other .from k ≡ t → T (other .silent k) → f (other .to k) < f t → Alone f s J (other .to k) x → Alone f s J t (push k x)
+  pushed : (f : ℕ → ℕ) (s : ℕ) (J : List ℕ) (t k : ℕ) (x : Cut)
+      → T (related s t) → k < other .steps → other .from k ≡ t → T (other .silent k) → f (other .to k) < f t
+      → Alone f s J (other .to k) x → Alone f s J t (push k x)
   pushed f s J t k x h l e q g a =
       let b = lower-falls (other .states) f (f t) (other .to k) (w .there .to< k l) g in
       let c : length (k ∷ x .first′) ≤ lower (other .states) f (f t) = omega (arith, a .few) in
-      record { fits = push-fits v w s J t k x h l e q (a .alone) (omega (arith, lower-bound (other .states) f t (w .there .related< t s h))) (a .fits); alone = a .alone; few = c }
+      record {
+        fits = push-fits v w s J t k x h l e q (a .alone) (omega (arith, lower-bound (other .states) f t (w .there .related< t s h))) (a .fits);
+        alone = a .alone;
+        few = c;
+      }
 
-  grew : (s j : ℕ) (J : List ℕ) (t : ℕ) (x : Cut) → own .from j ≡ s → j < own .steps → T (related s t) → T (is2b v r j t) → Facing (own .to j) J t x → Facing s (j ∷ J) t (grow j x)
+  grew : (s j : ℕ) (J : List ℕ) (t : ℕ) (x : Cut) → own .from j ≡ s → j < own .steps
+      → T (related s t) → T (is2b v r j t) → Facing (own .to j) J t x → Facing s (j ∷ J) t (grow j x)
   grew s j J t x e l h b a =
       let q = rw e at (is2b-e v r j t b) in
-      let c = lower-falls (own .states) (λ y. r .stutter y t) (r .stutter s t) (own .to j) (w .here .to< j l) (q .2) in
+      let c = lower-falls (own .states) (λ y. r .stutter y t) (r .stutter s t) (own .to j) (w .here .to< j l) (q .1) in
       let d : length (j ∷ x .first) ≤ lower (own .states) (λ y. r .stutter y t) (r .stutter s t) = omega (arith, a .few) in
-      record { fits = grow-fits v w s j J t x h (q .0) (a .alone) (omega (arith, lower-bound (own .states) (λ y. r .stutter y t) s (w .here .related< s t h))) (a .fits); alone = a .alone; few = d }
+      record {
+        fits = grow-fits v w s j J t x h (q .0 .0) (a .alone)
+            (omega (arith, lower-bound (own .states) (λ y. r .stutter y t) s (w .here .related< s t h))) (a .fits);
+        alone = a .alone;
+        few = d;
+      }
 
-  picked-2a : (j t : ℕ) → T (is2a v j t) → let k = smallestStep other (meets2a v j t) in (k < other .steps) × (other .from k ≡ t) × T (answers j k) × T (related (own .to j) (other .to k))
+  picked-2a : (j t : ℕ) → T (is2a v j t)
+      → let k = smallestStep other (meets2a v j t) in (k < other .steps) × (other .from k ≡ t) × T (serves j k) × T (related (own .to j) (other .to k))
   unfolding is2a
-  picked-2a j t h = let q = pick-passes other (w .there .to<) (meets2a v j t) h in (q .0, eqb→eq _ _ (search (and-l, and-r)), search (and-l, and-r), search (and-l, and-r))
+  picked-2a j t h =
+      let q = pick-passes other (w .there .to<) (meets2a v j t) h in
+      (q .0, eqb→eq _ _ (search (and-l, and-r)), search (and-l, and-r), search (and-l, and-r))
 
-  picked-2c : (j t : ℕ) → T (is2c v r j t) → let k = smallestStep other (meets2c v r j t) in (k < other .steps) × (other .from k ≡ t) × T (other .silent k) × T (related (own .from j) (other .to k)) × (r .match j (other .to k) < r .match j t)
+  picked-2c : (j t : ℕ) → T (is2c v r j t)
+      → let k = smallestStep other (meets2c v r j t) in
+      (k < other .steps) × (other .from k ≡ t) × T (other .silent k) × T (related (own .from j) (other .to k)) × (r .match j (other .to k) < r .match j t)
   unfolding is2c
-  picked-2c j t h = let q = pick-passes other (w .there .to<) (meets2c v r j t) h in (q .0, eqb→eq _ _ (search (and-l, and-r)), search (and-l, and-r), search (and-l, and-r), ltb→lt _ _ (search (and-l, and-r)))
+  picked-2c j t h =
+      let q = pick-passes other (w .there .to<) (meets2c v r j t) h in
+      (q .0, eqb→eq _ _ (search (and-l, and-r)), search (and-l, and-r), search (and-l, and-r), ltb→lt _ _ (search (and-l, and-r)))
 
   -- the end of the path: on to a terminal state where s is one
-  tail : (M N s t : ℕ) → lower (other .states) (λ y. r .stutter′ y s) (r .stutter′ t s) < M → M ≤ N → T (related s t) → Alone (λ y. r .stutter′ y s) s [] t (matchSteps v r N s [] t)
+  tail : (M N s t : ℕ) → lower (other .states) (λ y. r .stutter′ y s) (r .stutter′ t s) < M → M ≤ N → T (related s t)
+      → Alone (λ y. r .stutter′ y s) s [] t (matchSteps v r N s [] t)
   unfolding matchSteps
   tail zero N s t g b h = absurd (not-suc-le-zero g)
   tail (suc M) zero s t g b h = absurd (not-suc-le-zero b)
@@ -162,7 +223,12 @@ module _ (v : View) (r : Ranks) (w : WellFormed v) (D : EveryObligation Meets v 
       let c = terminal-2b s t h (still-terminal own s (T-not (moves own s) (and-l (not (moves own s)) (moves other t) m))) k (q .0) e in
       let d = lower-falls (other .states) (λ y. r .stutter′ y s) (r .stutter′ t s) (other .to k) (w .there .to< k (q .0)) (c .2) in
       pushed (λ y. r .stutter′ y s) s [] t k _ h (q .0) e (c .0) (c .2) (tail M N s (other .to k) (omega arith) (omega arith) (c .1)))
-      (λ m. record { fits = nothing-fits v w s t h (λ d. still-terminal other t (λ z. m (and-i (not (moves own s)) (moves other t) (not-T (moves own s) (λ y. moves-not-terminal own s y d)) z))); alone = refl; few = zero-le })
+      (λ m. record {
+        fits = nothing-fits v w s t h
+            (λ d. still-terminal other t (λ z. m (and-i (not (moves own s)) (moves other t) (not-T (moves own s) (λ y. moves-not-terminal own s y d)) z)));
+        alone = refl;
+        few = zero-le;
+      })
 
   -- what the recursion has of the rest of the path
   abbrev Fresh : ℕ → List ℕ → Type 0
@@ -174,16 +240,20 @@ module _ (v : View) (r : Ranks) (w : WellFormed v) (D : EveryObligation Meets v 
 
   -- 2a fails at t, and 2c goes on to the next state: there 2b cannot hold
   next-2c : (j : ℕ) (J : List ℕ) (s t : ℕ) (x : ℕ → Cut) → own .from j ≡ s → T (related s t) → (T (is2a v j t) → ⊥) → T (is2c v r j t)
-      → ((k : ℕ) → lower (other .states) (r .match j) (r .match j (other .to k)) < lower (other .states) (r .match j) (r .match j t) → T (related s (other .to k)) → (T (own .silent j) → T (related (own .to j) (other .to k)) → ⊥) → Alone (r .match j) s (j ∷ J) (other .to k) (x k))
+      → ((k : ℕ) → lower (other .states) (r .match j) (r .match j (other .to k)) < lower (other .states) (r .match j) (r .match j t)
+      → T (related s (other .to k)) → (T (own .silent j) → T (related (own .to j) (other .to k)) → ⊥)
+      → Alone (r .match j) s (j ∷ J) (other .to k) (x k))
       → let k = smallestStep other (meets2c v r j t) in Alone (r .match j) s (j ∷ J) t (push k (x k))
   next-2c j J s t x e h na c go =
       let q = picked-2c j t c in
       let p = rw e at (q .3) in
       pushed (r .match j) s (j ∷ J) t _ _ h (q .0) (q .1) (q .2) (q .4)
-      (go _ (lower-falls (other .states) (r .match j) (r .match j t) _ (w .there .to< _ (q .0)) (q .4)) p (λ z u. not-2a-shut j t na z _ (q .0) (q .1) (q .2) u))
+      (go _ (lower-falls (other .states) (r .match j) (r .match j t) _ (w .there .to< _ (q .0)) (q .4))
+      p (λ z u. not-2a-shut j t na z _ (q .0) (q .1) (q .2) u))
 
   -- after a 2c: only 2a and 2c can come, until 2a
-  match-on : (j : ℕ) (J : List ℕ) → j < own .steps → Fresh (own .to j) J → (M N s t : ℕ) → own .from j ≡ s → lower (other .states) (r .match j) (r .match j t) < M → M + movesNeeded (other .states) J ≤ N
+  match-on : (j : ℕ) (J : List ℕ) → j < own .steps → Fresh (own .to j) J
+      → (M N s t : ℕ) → own .from j ≡ s → lower (other .states) (r .match j) (r .match j t) < M → M + movesNeeded (other .states) J ≤ N
       → T (related s t) → (T (own .silent j) → T (related (own .to j) t) → ⊥) → Alone (r .match j) s (j ∷ J) t (matchSteps v r N s (j ∷ J) t)
   unfolding matchSteps
   match-on j J l F zero N s t e g b h nb = absurd (not-suc-le-zero g)
@@ -191,18 +261,24 @@ module _ (v : View) (r : Ranks) (w : WellFormed v) (D : EveryObligation Meets v 
   match-on j J l F (suc M) (suc N) s t e g b h nb =
       cases (Alone (r .match j) s (j ∷ J) t) j t _ _ _ l (rw e h)
       (λ a. record { fits = entered s j J N t F (omega arith) h a; alone = refl; few = zero-le })
-      (λ na c. let q = is2b-e v r j t c in absurd (nb (q .0) (q .1)))
-      (λ na c. next-2c j J s t (λ k. matchSteps v r N s (j ∷ J) (other .to k)) e h na c (λ k d p n. match-on j J l F M N s (other .to k) e (omega arith) (omega arith) p n))
+      (λ na c. let q = is2b-e v r j t c in absurd (nb (q .0 .0) (q .0 .1)))
+      (λ na c. next-2c j J s t (λ k. matchSteps v r N s (j ∷ J) (other .to k)) e h na c
+      (λ k d p n. match-on j J l F M N s (other .to k) e (omega arith) (omega arith) p n))
 
   -- after a 2b: only 2a and 2b can come
   abbrev Shutting : ℕ → List ℕ → Type 0
   Shutting s J = (N t : ℕ) → movesNeeded (other .states) J ≤ N → T (related s t) → Shut s t → Facing s J t (matchSteps v r N s J t)
 
-  grown : (j : ℕ) (J : List ℕ) (N s t : ℕ) → own .from j ≡ s → j < own .steps → T (related s t) → Shutting (own .to j) J → movesNeeded (other .states) J ≤ N → (T (is2a v j t) → ⊥) → T (is2b v r j t) → Facing s (j ∷ J) t (grow j (matchSteps v r N (own .to j) J t))
-  grown j J N s t e l h G b na c = let q = is2b-e v r j t c in grew s j J t _ e l h c (G N t b (q .1) (not-2a-shut j t na (q .0)))
+  grown : (j : ℕ) (J : List ℕ) (N s t : ℕ) → own .from j ≡ s → j < own .steps
+      → T (related s t) → Shutting (own .to j) J → movesNeeded (other .states) J ≤ N → (T (is2a v j t) → ⊥) → T (is2b v r j t)
+      → Facing s (j ∷ J) t (grow j (matchSteps v r N (own .to j) J t))
+  grown j J N s t e l h G b na c = let q = is2b-e v r j t c in grew s j J t _ e l h c (G N t b (q .0 .1) (not-2a-shut j t na (q .0 .0)))
 
   fresh-end : (s : ℕ) → Fresh s []
-  fresh-end s N t b h = tail (suc (other .states)) N s t (omega (arith, lower-bound (other .states) (λ y. r .stutter′ y s) t (w .there .related< t s h))) b h .fits
+  fresh-end s N t b h =
+      tail (suc (other .states)) N s t
+      (omega (arith, lower-bound (other .states) (λ y. r .stutter′ y s) t (w .there .related< t s h)))
+      b h .fits
 
   shut-end : (s : ℕ) → Shutting s []
   unfolding matchSteps
@@ -210,7 +286,9 @@ module _ (v : View) (r : Ranks) (w : WellFormed v) (D : EveryObligation Meets v 
   shut-end s (suc N) t b h z =
       let stuck : Terminal own s → Terminal other t = λ d k l e. (let c = terminal-2b s t h d k l e in z k l e (c .0) (c .1)) in
       cond-cases (Facing s [] t) (not (moves own s) && moves other t) _ _
-      (λ m. absurd (moves-not-terminal other t (and-r (not (moves own s)) (moves other t) m) (stuck (still-terminal own s (T-not (moves own s) (and-l (not (moves own s)) (moves other t) m))))))
+      (λ m. absurd (moves-not-terminal other t
+      (and-r (not (moves own s)) (moves other t) m)
+      (stuck (still-terminal own s (T-not (moves own s) (and-l (not (moves own s)) (moves other t) m))))))
       (λ m. record { fits = nothing-fits v w s t h stuck; alone = refl; few = zero-le })
 
   module _ (j : ℕ) (J : List ℕ) (s : ℕ) (l : j < own .steps) (e : own .from j ≡ s) (F : Fresh (own .to j) J) (G : Shutting (own .to j) J) where
@@ -218,14 +296,20 @@ module _ (v : View) (r : Ranks) (w : WellFormed v) (D : EveryObligation Meets v 
     unfolding matchSteps
     fresh-step zero t b h = absurd (not-suc-le-zero b)
     fresh-step (suc N) t b h =
-        cases (Fitted v s (j ∷ J) t) j t _ _ _ l (rw e h) (λ a. entered s j J N t F (omega arith) h a) (λ na c. grown j J N s t e l h G (omega arith) na c .fits)
-        (λ na c. next-2c j J s t (λ k. matchSteps v r N s (j ∷ J) (other .to k)) e h na c (λ k d p n. match-on j J l F (other .states) N s (other .to k) e (omega (arith, lower-bound (other .states) (r .match j) t (w .there .related< t s h))) (omega arith) p n) .fits)
+        cases (Fitted v s (j ∷ J) t) j t _ _ _ l (rw e h)
+        (λ a. entered s j J N t F (omega arith) h a)
+        (λ na c. grown j J N s t e l h G (omega arith) na c .fits)
+        (λ na c. next-2c j J s t (λ k. matchSteps v r N s (j ∷ J) (other .to k)) e h na c
+        (λ k d p n. match-on j J l F (other .states) N s (other .to k) e
+        (omega (arith, lower-bound (other .states) (r .match j) t (w .there .related< t s h))) (omega arith) p n) .fits)
 
     shut-step : Shutting s (j ∷ J)
     unfolding matchSteps
     shut-step zero t b h z = absurd (not-suc-le-zero b)
     shut-step (suc N) t b h z =
-        cases (Facing s (j ∷ J) t) j t _ _ _ l (rw e h) (λ a. record { fits = entered s j J N t F (omega arith) h a; alone = refl; few = zero-le }) (λ na c. grown j J N s t e l h G (omega arith) na c)
+        cases (Facing s (j ∷ J) t) j t _ _ _ l (rw e h)
+        (λ a. record { fits = entered s j J N t F (omega arith) h a; alone = refl; few = zero-le })
+        (λ na c. grown j J N s t e l h G (omega arith) na c)
         (λ na c. let q = is2c-e v r j t c in absurd (z (q .0) (q .1) (q .2) (q .3) (rw e at (q .4))))
 
   walk : (J : List ℕ) (s : ℕ) → StepPath own s J → Fresh s J × Shutting s J

@@ -1,24 +1,24 @@
--- Document 01's duties and clauses as statements, over the test of a step: in plain tables every step is silent and answers every other.
+-- Document 01's duties and clauses as statements, over the test of a step: in plain tables every step is silent and serves every other.
 use Prim.Native.Nat.{ℕ, _<_}
 use mathlib.Core.Path.{_≡_}
 use mathlib.Core.Logic.{_⊎_}
 use lib.Dec.{T}
-use Rattle.bisimulation.specs.Systems.{View, Ranks, flip, swap, InitialRelated, LabelsEqual}
+use Rattle.bisimulation.specs.Systems.{View, Ranks, flip, swap, Stays, InitialRelated, LabelsEqual}
 
 -- The obligation of the own step j, from s to u, at the state t: s and t are related.
 module _ (v : View) (j t : ℕ) where
-  open View v using (own, other, related, answers)
+  open View v using (own, other, related, serves)
 
-  -- 2a: some step t to x that answers j, with u, x related.
+  -- 2a: some step t to x that serves j, with u, x related.
   abbrev pub Meets2a : Type 0
-  Meets2a = (k : ℕ) × (k < other .steps) × (other .from k ≡ t) × T (answers j k) × T (related (own .to j) (other .to k))
+  Meets2a = (k : ℕ) × (k < other .steps) × (other .from k ≡ t) × T (serves j k) × T (related (own .to j) (other .to k))
 
 module _ (v : View) (r : Ranks) (j t : ℕ) where
   open View v using (own, other, related)
 
-  -- 2b: j is silent, u, t are related, and the A rank of (u, t) is below that of (s, t).
+  -- 2b: j stays at t, that is it is silent and u, t are related, and the A rank of (u, t) is below that of (s, t).
   abbrev pub Meets2b : Type 0
-  Meets2b = T (own .silent j) × T (related (own .to j) t) × (r .stutter (own .to j) t < r .stutter (own .from j) t)
+  Meets2b = Stays v j t × (r .stutter (own .to j) t < r .stutter (own .from j) t)
 
   -- 2c: some silent step t to x with s, x related, and the C rank of j at x is below that at t.
   abbrev pub Meets2c : Type 0
@@ -30,9 +30,9 @@ module _ (v : View) (r : Ranks) (j t : ℕ) where
   abbrev pub Meets : Type 0
   Meets = Meets2a v j t ⊎ Meets2b ⊎ Meets2c
 
-  -- The paper: 2c only where 2b is out of the question, that is where j is not silent or u, t are not related.
+  -- The paper: 2c only where 2b is out of the question, that is where j does not stay at t.
   abbrev pub MeetsLiterally : Type 0
-  MeetsLiterally = Meets2a v j t ⊎ Meets2b ⊎ ((¬ (T (own .silent j) × T (related (own .to j) t))) × Meets2c)
+  MeetsLiterally = Meets2a v j t ⊎ Meets2b ⊎ ((¬ Stays v j t) × Meets2c)
 
 -- Every obligation of the own side is met, in the sense given.
 abbrev pub EveryObligation : (View → Ranks → ℕ → ℕ → Type 0) → View → Ranks → Type 0

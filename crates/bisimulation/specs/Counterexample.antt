@@ -25,4 +25,4 @@ unfoldable pub twoRows : ℕ → ℕ → Bool
 twoRows s t = getD (getD ((true ∷ true ∷ []) ∷ (true ∷ false ∷ []) ∷ []) s []) t false
 
 unfoldable pub twoTwo : View
-twoTwo = record { own = twoStates; other = twoStates; related = twoRows; answers = λ j k. true }
+twoTwo = record { own = twoStates; other = twoStates; related = twoRows; serves = λ j k. true }

@@ -4,23 +4,24 @@ use Prim.Native.Nat.{ℕ}
 use mathlib.Core.Bool.{Bool, _&&_, _||_}
 use lib.Dec.{ltb, eqb}
 use Rattle.lists.specs.Below.{anyBelow, allBelow, implies}
-use Rattle.bisimulation.specs.Systems.{View, Ranks, flip, swap}
+use Rattle.bisimulation.specs.Systems.{View, Ranks, flip, swap, stays}
 
--- The other's step k meets the obligation by 2a: it leaves t, answers j, and enters a state related to the one that j enters.
+-- The other's step k meets the obligation by 2a: it leaves t, serves j, and enters a state related to the one that j enters.
 abbrev pub meets2a : View → ℕ → ℕ → ℕ → Bool
-meets2a v j t k = eqb (v .other .from k) t && v .answers j k && v .related (v .own .to j) (v .other .to k)
+meets2a v j t k = eqb (v .other .from k) t && v .serves j k && v .related (v .own .to j) (v .other .to k)
 
 -- The other's step k meets it by 2c: it leaves t, is silent, enters a state related to the one that j leaves, and the match rank of j falls.
 abbrev pub meets2c : View → Ranks → ℕ → ℕ → ℕ → Bool
-meets2c v r j t k = eqb (v .other .from k) t && v .other .silent k && v .related (v .own .from j) (v .other .to k) && ltb (r .match j (v .other .to k)) (r .match j t)
+meets2c v r j t k =
+    eqb (v .other .from k) t && v .other .silent k && v .related (v .own .from j) (v .other .to k) && ltb (r .match j (v .other .to k)) (r .match j t)
 
 -- 2a: some step of the other from t meets it.
 unfoldable pub is2a : View → ℕ → ℕ → Bool
 is2a v j t = anyBelow (v .other .steps) (meets2a v j t)
 
--- 2b: j is silent and enters a state related to t, and the stutter rank falls.
+-- 2b: j stays at t, and the stutter rank falls.
 unfoldable pub is2b : View → Ranks → ℕ → ℕ → Bool
-is2b v r j t = v .own .silent j && v .related (v .own .to j) t && ltb (r .stutter (v .own .to j) t) (r .stutter (v .own .from j) t)
+is2b v r j t = stays v j t && ltb (r .stutter (v .own .to j) t) (r .stutter (v .own .from j) t)
 
 -- 2c: some step of the other from t meets it.
 unfoldable pub is2c : View → Ranks → ℕ → ℕ → Bool

@@ -4,11 +4,11 @@ use Prim.Native.Nat.{ℕ, zero, suc}
 use mathlib.Core.Bool.{Bool, _&&_, _||_, not, cond}
 use lib.Dec.{ltb, eqb}
 use Rattle.lists.specs.Below.{anyBelow, mostBelow, firstBelow}
-use Rattle.bisimulation.specs.Systems.{View, Ranks, flip}
+use Rattle.bisimulation.specs.Systems.{System, View, Ranks, flip, stays}
 use Rattle.bisimulation.specs.Judge.{is2a, allPairs, allStepsFrom, initialRelated, labelsEqual}
 
 -- A list of states, t first, with at most k steps inside, each silent, all related to the state that j leaves, whose last state has a step that
--- answers j and enters a state related to the one that j enters.
+-- serves j and enters a state related to the one that j enters.
 unfoldable pub matchesWithin : View → ℕ → ℕ → ℕ → Bool
 matchesWithin v j zero t = v .related (v .own .from j) t && is2a v j t
 matchesWithin v j (suc k) t =
@@ -23,15 +23,19 @@ matched v j t = anyBelow (v .other .states) (λ k. matchesWithin v j k t)
 unfoldable pub distance : View → ℕ → ℕ → ℕ
 distance v j t = firstBelow (v .other .states) (λ k. matchesWithin v j k t)
 
--- The own step j may stand in a chain at t: it is silent, unmatched at t, and enters a state related to t.
-unfoldable pub stutters : View → ℕ → ℕ → Bool
-stutters v t j = v .own .silent j && v .related (v .own .to j) t && not (matched v j t)
+-- The own step j may stand in a chain at t: it stays at t, and is unmatched there.
+unfoldable pub mayChain : View → ℕ → ℕ → Bool
+mayChain v t j = stays v j t && not (matched v j t)
 
--- The most steps in a chain at t from s, for chains of at most k steps: 0 where k is 0 or no such step leaves s, else one more than the
--- greatest over the next states for k - 1.
-unfoldable pub chainLength : View → ℕ → ℕ → ℕ → ℕ
-chainLength v t zero s = 0
-chainLength v t (suc k) s = mostBelow (v .own .steps) (λ j. cond (eqb (v .own .from j) s && stutters v t j) (suc (chainLength v t k (v .own .to j))) 0)
+-- The most steps in a chain from s of steps that pass the test, for chains of at most k steps: 0 where k is 0 or no such step leaves s, else one
+-- more than the greatest over the next states for k - 1.
+unfoldable pub chainAlong : System → (ℕ → Bool) → ℕ → ℕ → ℕ
+chainAlong S test zero s = 0
+chainAlong S test (suc k) s = mostBelow (S .steps) (λ j. cond (eqb (S .from j) s && test j) (suc (chainAlong S test k (S .to j))) 0)
+
+-- The most steps in a chain at t from s, for chains of at most k steps: its steps may stand in a chain at t.
+abbrev pub chainLength : View → ℕ → ℕ → ℕ → ℕ
+chainLength v t = chainAlong (v .own) (mayChain v t)
 
 -- The A rank that is written: the most steps in a chain at t from s where s, t are related, else 0; k begins as the side's number of states.
 unfoldable pub stutterRank : View → ℕ → ℕ → ℕ
@@ -44,9 +48,9 @@ matchRank v j t = cond (matched v j t) (distance v j t) 0
 abbrev pub made : View → Ranks
 made v = record { stutter = stutterRank v; match = matchRank v; stutter′ = stutterRank (flip v); match′ = matchRank (flip v) }
 
--- No obligation that 22 names: each is matched, or its step is silent and enters a state related to t.
+-- No obligation that 22 names: each is matched, or its step stays at t.
 unfoldable pub noneUnmatched : View → Bool
-noneUnmatched v = allPairs v (λ s t. allStepsFrom v s (λ j. matched v j t || v .own .silent j && v .related (v .own .to j) t))
+noneUnmatched v = allPairs v (λ s t. allStepsFrom v s (λ j. matched v j t || stays v j t))
 
 -- No chain that 23 names: of as many steps as the side has states.
 unfoldable pub noneEndless : View → Bool

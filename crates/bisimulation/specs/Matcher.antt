@@ -1,4 +1,4 @@
--- The path matcher: it answers a given path on the other side by the judge's clauses in order, the smallest state each time, with a new block
+-- The path matcher: it follows a given path on the other side by the judge's clauses in order, the smallest state each time, with a new block
 -- at each 2a; where the given path ends in a terminal state it goes on, by smallest states, to a terminal state.
 use Prim.Native.Nat.{ℕ, zero, suc, _+_}
 use mathlib.Core.Bool.{Bool, _&&_, not, cond}

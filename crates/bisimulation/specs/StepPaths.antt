@@ -52,8 +52,8 @@ pub record Fits (v : View) (s : ℕ) (J : List ℕ) (t : ℕ) (x : Cut) : Type 0
   pub same : SameBlocks v (stateBlocks (v .own) s (x .first) (x .later)) (stateBlocks (v .other) t (x .first′) (x .later′))
   pub silent : SilentInside (v .own) (x .first) (x .later)
   pub silent′ : SilentInside (v .other) (x .first′) (x .later′)
-  -- The steps that enter same-numbered blocks answer each other.
-  pub entered : (i : ℕ) → i < length (x .later) → T (v .answers (entering (x .later) i) (entering (x .later′) i))
+  -- The steps that enter same-numbered blocks serve each other.
+  pub entered : (i : ℕ) → i < length (x .later) → T (v .serves (entering (x .later) i) (entering (x .later′) i))
   pub terminal : Terminal (v .own) (endState (v .own) s J) → Terminal (v .other) (endState (v .other) t (otherSteps x))
 
 abbrev pub StepPathsMatched : View → Type 0

@@ -21,7 +21,7 @@ use Rattle.certificate_reader.specs.declared.CertificateRead.{Certificat
 use Rattle.certificate_reader.specs.declared.CertificateRead.the-variants as read
 use Rattle.certificate_reader.specs.declared.RelationRefusal.the-variants as relation
 use Rattle.certificate_reader.specs.declared.RelationRead.{RelationRead}
-use Rattle.certificate_reader.specs.declared.RelationRead.the-variants as drawn
+use Rattle.certificate_reader.specs.declared.RelationRead.the-variants as relations
 use Rattle.certificate_reader.specs.CertificateReading.{readHeader, readRows, withRows, readCertificate, readRelation}
 use Rattle.certificate_reader.specs.CertificateAnswers.{certificateVerdict, relationVerdict}
 use Rattle.certificate_reader.specs.CertificateCauses.{certificateCauses, relationCauses}
@@ -32,9 +32,9 @@ certificate-on : (file : ℕ) (x : CertificateRead) {z : Sizes} → certificateV
 certificate-on file (read.Good y) e = ap read.Good (cc e)
 certificate-on file (read.Refused r) e = absurd (let q : _≡_ {A = ℕ} 0 1 = cc e in omega arith)
 
-relation-on : (file : ℕ) (x : RelationRead) {z : Sizes} → relationVerdict file x ≡ goOn z → x ≡ drawn.Good z
-relation-on file (drawn.Good y) e = ap drawn.Good (cc e)
-relation-on file (drawn.Refused r) e = absurd (let q : _≡_ {A = ℕ} 0 1 = cc e in omega arith)
+relation-on : (file : ℕ) (x : RelationRead) {z : Sizes} → relationVerdict file x ≡ goOn z → x ≡ relations.Good z
+relation-on file (relations.Good y) e = ap relations.Good (cc e)
+relation-on file (relations.Refused r) e = absurd (let q : _≡_ {A = ℕ} 0 1 = cc e in omega arith)
 
 module _ (file : ℕ) (z : Sizes) (c : List ℕ) where
   abbrev rows-on : CertificateRead → Verdict Sizes
@@ -49,28 +49,34 @@ module _ (file : ℕ) (z : Sizes) (c : List ℕ) where
       (decided-test rows-on (read.Refused certificate.Version) _ (not-decides (eqb-decides (bigEndian c 3 2) 1)) refl
       (decided-test rows-on (read.Refused certificate.Sizes) _ (not-decides (sizes-decides z c)) refl
       (decided-test rows-on (read.Refused certificate.Length) _ (not-decides (eqb-decides (length c) (certificateLength z))) refl
-      (decided-end (decided-search (certificateVerdict file) (z .n1) (sixNumbers 15 file) (λ s. read.Refused (certificate.RowBit s)) _ (wide-decides (rowsPart c z) (z .n2)) (λ s. refl)
+      (decided-end (decided-search (certificateVerdict file) (z .n1) (sixNumbers 15 file) (λ s. read.Refused (certificate.RowBit s))
+      _ (wide-decides (rowsPart c z) (z .n2)) (λ s. refl)
       (decided-none refl)))))))
 
   pub certificate-good-none : {y : Sizes} → readCertificate z c ≡ read.Good y → (y ≡ z) × NoCause (certificateCauses file z c)
   certificate-good-none e = on-none (ap (certificateVerdict file) e) certificate-decided
 
   pub certificate-none-good : NoCause (certificateCauses file z c) → readCertificate z c ≡ read.Good z
-  certificate-none-good n = let q = none-on (certificateVerdict file (readCertificate z c)) certificate-decided n in certificate-on file (readCertificate z c) (q .1 ∙ ap goOn (q .2))
+  certificate-none-good n =
+      let q = none-on (certificateVerdict file (readCertificate z c)) certificate-decided n in
+      certificate-on file (readCertificate z c) (q .1 ∙ ap goOn (q .2))
 
 module _ (file : ℕ) (z : Sizes) (r : List ℕ) where
   pub relation-decided : Decided (λ y. y ≡ z) (relationCauses file z r) (relationVerdict file (readRelation z r))
   unfolding readRelation
   relation-decided =
-      decided-test (relationVerdict file) (drawn.Refused relation.Length) _ (not-decides (eqb-decides (length r) (8 * z .n1))) refl
-      (decided-end (decided-search (relationVerdict file) (z .n1) (sixNumbers 15 file) (λ s. drawn.Refused (relation.RowBit s)) _ (wide-decides r (z .n2)) (λ s. refl)
+      decided-test (relationVerdict file) (relations.Refused relation.Length) _ (not-decides (eqb-decides (length r) (8 * z .n1))) refl
+      (decided-end (decided-search (relationVerdict file) (z .n1) (sixNumbers 15 file) (λ s. relations.Refused (relation.RowBit s))
+      _ (wide-decides r (z .n2)) (λ s. refl)
       (decided-none refl)))
 
-  pub relation-good-none : {y : Sizes} → readRelation z r ≡ drawn.Good y → (y ≡ z) × NoCause (relationCauses file z r)
+  pub relation-good-none : {y : Sizes} → readRelation z r ≡ relations.Good y → (y ≡ z) × NoCause (relationCauses file z r)
   relation-good-none e = on-none (ap (relationVerdict file) e) relation-decided
 
-  pub relation-none-good : NoCause (relationCauses file z r) → readRelation z r ≡ drawn.Good z
-  relation-none-good n = let q = none-on (relationVerdict file (readRelation z r)) relation-decided n in relation-on file (readRelation z r) (q .1 ∙ ap goOn (q .2))
+  pub relation-none-good : NoCause (relationCauses file z r) → readRelation z r ≡ relations.Good z
+  relation-none-good n =
+      let q = none-on (relationVerdict file (readRelation z r)) relation-decided n in
+      relation-on file (readRelation z r) (q .1 ∙ ap goOn (q .2))
 
 -- ---- the numbers are 10 to 15, and 20 and 15, with the file given
 

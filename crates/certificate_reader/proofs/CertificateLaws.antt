@@ -4,6 +4,7 @@ use Prim.Native.Nat.{ℕ, _*_, _≤_, _<_}
 use mathlib.Core.Path.{_≡_}
 use mathlib.Core.Bool.{Bool, true}
 use mathlib.Core.List.{List}
+use native.Mathlib.Nat.{mod-eq-of-lt}
 use native.Mathlib.Omega.{arith}
 use native.Mathlib.Decide.{decLt}
 use lib.Dec.{T}
@@ -11,7 +12,7 @@ use lib.ListN.{length}
 use Rattle.words.proofs.BitLaws.{has-lt}
 use Rattle.bisimulation.specs.Systems.{SideFormed, WellFormed}
 use Rattle.tables.specs.declared.Head.{Head}
-use Rattle.tables.specs.Table.{statesOf}
+use Rattle.tables.specs.Table.{statesOf, stepsOf}
 use Rattle.tables.specs.Model.{systemOf}
 use Rattle.answers.specs.Numbers.{sixNumbers}
 use Rattle.table_reader.specs.declared.TableRead.the-variants as table
@@ -20,12 +21,12 @@ use Rattle.answers.proofs.DecideLaws.{decides-stable, eqb-decides}
 use Rattle.answers.proofs.CauseLaws.{below-none}
 use Rattle.table_reader.proofs.TableLaws.{table-ok, TableFormed, table-formed}
 use Rattle.certificates.specs.declared.Sizes.{Sizes}
-use Rattle.certificates.specs.Layout.{sizesOf, certificateLength, rowsPart, rowOf}
+use Rattle.certificates.specs.Layout.{sizesFor, sizesOf, certificateLength, rowsPart, rowOf}
 use Rattle.certificates.specs.CertificateModel.{AreBytes, relatedIn, viewOf}
 use Rattle.certificates.proofs.LayoutLaws.{length-limit}
 use Rattle.certificates.proofs.ModelLaws.{related-left, related-bit, row-word}
 use Rattle.certificate_reader.specs.declared.CertificateRead.the-variants as read
-use Rattle.certificate_reader.specs.declared.RelationRead.the-variants as drawn
+use Rattle.certificate_reader.specs.declared.RelationRead.the-variants as relations
 use Rattle.certificate_reader.specs.CertificateReading.{readCertificate, readRelation}
 use Rattle.certificate_reader.specs.CertificateCauses.{HasWideBit}
 use Rattle.certificate_reader.proofs.CertificateCauseLaws.{certificate-good-none, relation-good-none}
@@ -54,10 +55,15 @@ pub record RelationOk (z : Sizes) (r : List ℕ) : Type 0 where
   pub long : length r ≡ 8 * z .n1
   pub narrow : NoWideRow r (z .n1) (z .n2)
 
-pub relation-ok : (z : Sizes) (r : List ℕ) {y : Sizes} → readRelation z r ≡ drawn.Good y → (y ≡ z) × RelationOk z r
+pub relation-ok : (z : Sizes) (r : List ℕ) {y : Sizes} → readRelation z r ≡ relations.Good y → (y ≡ z) × RelationOk z r
 relation-ok z r e =
-    let g = relation-good-none 2 z r e in
-    (g .0, record { long = decides-stable (eqb-decides (length r) (8 * z .n1)) (g .1 .0); narrow = below-none (z .n1) (HasWideBit r (z .n2)) (sixNumbers 15 2) (g .1 .1) })
+    let g = relation-good-none 2 z r e in (
+      g .0,
+      record {
+        long = decides-stable (eqb-decides (length r) (8 * z .n1)) (g .1 .0);
+        narrow = below-none (z .n1) (HasWideBit r (z .n2)) (sixNumbers 15 2) (g .1 .1);
+      },
+    )
 
 -- a certificate of two tables that are read has at most 41,483 bytes
 pub certificate-limit : (left right : List ℕ) {h k : Head} → readTable left ≡ table.Good h → readTable right ≡ table.Good k
@@ -67,6 +73,27 @@ certificate-limit left right l r =
     let a = table-ok left l in
     let b = table-ok right r in
     length-limit (sizesOf left right) (a .states-le) (b .states-le) (a .steps-le) (b .steps-le)
+
+-- the sizes that two headers give are those that the bytes give
+pub sizes-are : (left right : List ℕ) {h k : Head} → readTable left ≡ table.Good h → readTable right ≡ table.Good k → sizesFor h k ≡ sizesOf left right
+unfolding sizesOf
+sizes-are left right l r =
+    let a = table-ok left l in
+    let b = table-ok right r in
+    let n = a .states-le in
+    let n′ = b .states-le in
+    let m = a .steps-le in
+    let m′ = b .steps-le in
+    rw (
+      a .states-is,
+      b .states-is,
+      a .steps-is,
+      b .steps-is,
+      mod-eq-of-lt {n = statesOf left} {m = 256} (omega arith),
+      mod-eq-of-lt {n = statesOf right} {m = 256} (omega arith),
+      mod-eq-of-lt {n = stepsOf left} {m = 65536} (omega arith),
+      mod-eq-of-lt {n = stepsOf right} {m = 65536} (omega arith),
+    )
 
 -- in rows of which none is wide, a related right state is below n2
 pub related-right : (rows : List ℕ) (n1 : ℕ) {n2 : ℕ} (s t : ℕ) → AreBytes rows → NoWideRow rows n1 n2 → T (relatedIn rows n1 s t) → t < n2
@@ -81,7 +108,7 @@ related-right rows n1 {n2} s t bytes narrow h = elim (decLt t n2) [
 
 -- a side whose table is read, and whose related states are states
 side-formed : (s other : List ℕ) (related : ℕ → ℕ → Bool) → TableFormed s → ((x y : ℕ) → T (related x y) → x < statesOf s)
-    → SideFormed (record { own = systemOf s; other = systemOf other; related = related; answers = λ j k. true })
+    → SideFormed (record { own = systemOf s; other = systemOf other; related = related; serves = λ j k. true })
 unfolding systemOf
 side-formed s other related f r = record { from< = f .from<; to< = f .to<; related< = r; initial< = f .initial<; quiet = λ j k a b. tt }
 

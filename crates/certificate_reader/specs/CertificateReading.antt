@@ -15,7 +15,7 @@ use Rattle.certificate_reader.specs.declared.CertificateRead.{Certificat
 use Rattle.certificate_reader.specs.declared.CertificateRead.the-variants as read
 use Rattle.certificate_reader.specs.declared.RelationRefusal.the-variants as relation
 use Rattle.certificate_reader.specs.declared.RelationRead.{RelationRead}
-use Rattle.certificate_reader.specs.declared.RelationRead.the-variants as drawn
+use Rattle.certificate_reader.specs.declared.RelationRead.the-variants as relations
 
 -- Bytes 5 and 6, then 7, 8 and 9, 10: the tables' sizes.
 unfoldable pub certificateSizesFit : Sizes → List ℕ → Bool
@@ -55,6 +55,6 @@ readCertificate z c = withRows c (readHeader z c)
 unfoldable pub readRelation : Sizes → List ℕ → RelationRead
 readRelation z r =
     let wide = firstBelow (z .n1) (wideRow r (z .n2)) in
-    cond (not (eqb (length r) (rowLength * z .n1))) (drawn.Refused relation.Length)
-    (cond (ltb wide (z .n1)) (drawn.Refused (relation.RowBit wide))
-    (drawn.Good z))
+    cond (not (eqb (length r) (rowLength * z .n1))) (relations.Refused relation.Length)
+    (cond (ltb wide (z .n1)) (relations.Refused (relation.RowBit wide))
+    (relations.Good z))

@@ -129,7 +129,7 @@ fn read_header(certificate: &[u8], sizes: Sizes) -> CertificateRead
     if certificate.len() < Sizes::HEADER {
         return CertificateRead::Refused(CertificateRefusal::Short);
     }
-    if !magic_fits(certificate, 0x43) {
+    if !magic_fits(certificate, Sizes::CERTIFICATE) {
         return CertificateRead::Refused(CertificateRefusal::Magic);
     }
     if read_be16(certificate, 3) != Sizes::VERSION {

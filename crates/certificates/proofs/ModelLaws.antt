@@ -83,7 +83,7 @@ row-word rows s h = big-fits rows (s * 8) 8 h (le-refl 8)
 
 pub view-plain : (left right rows : List ℕ) → Plain (viewOf left right rows)
 unfolding viewOf systemOf
-view-plain left right rows = record { silent = λ j. tt; silent′ = λ k. tt; answers = λ j k. tt }
+view-plain left right rows = record { silent = λ j. tt; silent′ = λ k. tt; serves = λ j k. tt }
 
 pub ranks-bytes : (z : Sizes) (c : List ℕ) → AreBytes c → Bytes (ranksOf z c)
 unfolding ranksOf

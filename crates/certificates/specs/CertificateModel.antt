@@ -19,9 +19,9 @@ AreBytes s = (i : ℕ) → byteAt s i < 256
 unfoldable pub relatedIn : List ℕ → ℕ → ℕ → ℕ → Bool
 relatedIn rows n1 s t = ltb s n1 && hasBit (rowOf rows s) t
 
--- Two tables and the relation that the rows give; every step answers every other.
+-- Two tables and the relation that the rows give; every step serves every other.
 unfoldable pub viewOf : List ℕ → List ℕ → List ℕ → View
-viewOf left right rows = record { own = systemOf left; other = systemOf right; related = relatedIn rows (statesOf left); answers = λ j k. true }
+viewOf left right rows = record { own = systemOf left; other = systemOf right; related = relatedIn rows (statesOf left); serves = λ j k. true }
 
 -- The ranks: AL at s times n2 + t, AR at t times n1 + s, CL at j times n2 + t for left step j, CR at j times n1 + s for right step j.
 unfoldable pub ranksOf : Sizes → List ℕ → Ranks

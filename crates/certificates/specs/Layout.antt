@@ -1,9 +1,10 @@
 -- The layout of a certificate (document 01, Certificate), for left n1, m1 and right n2, m2.
-use Prim.Native.Nat.{ℕ, _+_, _*_}
+use Prim.Native.Nat.{ℕ, _+_, _*_, _%_}
 use mathlib.Core.List.{List}
 use Rattle.lists.specs.Lists.{part}
 use Rattle.lists.specs.Numbers.{bigEndian}
 use Rattle.tables.specs.Table.{statesOf, stepsOf}
+use Rattle.tables.specs.declared.Head.{Head}
 use Rattle.certificates.specs.declared.Sizes.{Sizes}
 
 -- The bytes of the header and of a row.
@@ -13,7 +14,11 @@ certificateHeaderLength = 11
 abbrev pub rowLength : ℕ
 rowLength = 8
 
--- The sizes that the headers of two tables give.
+-- The sizes that two headers give, in the widths of a certificate's header: one byte for states, two for steps.
+abbrev pub sizesFor : Head → Head → Sizes
+sizesFor h k = record { n1 = h .states % 256; n2 = k .states % 256; m1 = h .steps % 65536; m2 = k .steps % 65536 }
+
+-- The sizes that the bytes of two tables give.
 unfoldable pub sizesOf : List ℕ → List ℕ → Sizes
 sizesOf left right = record { n1 = statesOf left; n2 = statesOf right; m1 = stepsOf left; m2 = stepsOf right }
 

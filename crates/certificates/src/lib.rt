@@ -3,7 +3,7 @@ use lists::part_of;
 use tables::Head;
 use words::Row;
 ghost use mathlib.Core.Path.{_≡_};
-ghost use Rattle.certificates.specs.Layout.{sizesOf, certificateLength, rowsAt, alAt, arAt, clAt, crAt, rowsPart, rowOf};
+ghost use Rattle.certificates.specs.Layout.{sizesFor, certificateLength, rowsAt, alAt, arAt, clAt, crAt, rowsPart, rowOf};
 
 // The sizes of two tables, as a certificate's header has them: states left and right, steps left and right.
 pub struct Sizes {
@@ -20,23 +20,21 @@ impl Sizes {
     // The bytes of a row.
     pub const ROW: usize = 8;
 
-    // The most states and the most steps of a table.
-    pub const MAX_STATES: usize = Head::MAX_STATES;
-
-    pub const MAX_STEPS: usize = Head::MAX_STEPS;
-
-    // The version that is read.
+    // The version that is read and written.
     pub const VERSION: u64 = 1;
 
-    // The sizes that the headers of two tables give.
-    pub fn of(left: &[u8], right: &[u8]) -> Self
-        ensures { λ r. ⌜ r ≡ sizesOf (now (left .entry)) (now (right .entry)) ⌝ }
+    // The third byte of a certificate, "C".
+    pub const CERTIFICATE: usize = 0x43;
+
+    // The sizes that the headers of two tables give, in the widths of a certificate's header.
+    pub fn of(left: Head, right: Head) -> Self
+        ensures { λ r. ⌜ r ≡ sizesFor left right ⌝ }
     {
         Sizes {
-            n1: tables::states(left) as u8,
-            n2: tables::states(right) as u8,
-            m1: tables::step_count(left) as u16,
-            m2: tables::step_count(right) as u16,
+            n1: (left.states % 256) as u8,
+            n2: (right.states % 256) as u8,
+            m1: (left.steps % 65536) as u16,
+            m2: (right.steps % 65536) as u16,
         }
     }
 

@@ -17,15 +17,17 @@ use Rattle.certificate_reader.proofs.CertificateCauseLaws.{certificate-decided,
 use Rattle.obligations.specs.CheckCauses.{startsCauses, checkCauses}
 use Rattle.obligations.specs.Judging.{checks, startsVerdict, checkVerdict}
 use Rattle.obligations.proofs.JudgingLaws.{starts-decided, check-decided, check-numbers}
-use Rattle.checker.specs.Progress.{none, counted, tallied}
+use Rattle.checker.specs.Tallies.{none, counted, tallied}
 use Rattle.checker.specs.Judge.{judged, judgedBytes, judgeVerdict}
 use Rattle.checker.specs.JudgeCauses.{judgeCauses, judgeNumber}
 
-pub judged-decided : (v : View) (r : Ranks) (start start′ : ℕ) → Decided Anything (startsCauses v start start′ ++ flatMap (checkCauses v r) (checks v)) (judged v r start start′)
+pub judged-decided : (v : View) (r : Ranks) (start start′ : ℕ)
+    → Decided Anything (startsCauses v start start′ ++ flatMap (checkCauses v r) (checks v)) (judged v r start start′)
 unfolding judged
 judged-decided v r start start′ =
     decided-then (startsVerdict v start start′) (starts-decided v start start′) λ x g n.
-    decided-along (checkCauses v r) (λ c. tallied (checkVerdict v r c)) (λ c y. decided-go (checkVerdict v r c) (counted y) (check-decided v r c)) (checks v) none
+    decided-along (checkCauses v r) (λ c. tallied (checkVerdict v r c))
+    (λ c y. decided-go (checkVerdict v r c) (counted y) (check-decided v r c)) (checks v) none
 
 module _ (left right c : List ℕ) where
   pub judge-decided : Decided Anything (judgeCauses left right c) (judgeVerdict left right c)
@@ -38,7 +40,8 @@ module _ (left right c : List ℕ) where
   -- the causes after each file
   abbrev pub afterCertificate : List Cause
   afterCertificate =
-      startsCauses (certifiedView left right c) (startOf left) (startOf right) ++ flatMap (checkCauses (certifiedView left right c) (certifiedRanks left right c)) (checks (certifiedView left right c))
+      startsCauses (certifiedView left right c) (startOf left) (startOf right)
+      ++ flatMap (checkCauses (certifiedView left right c) (certifiedRanks left right c)) (checks (certifiedView left right c))
 
   abbrev pub afterRight : List Cause
   afterRight = certificateCauses 2 (sizesOf left right) c ++ afterCertificate
@@ -51,7 +54,8 @@ module _ (left right c : List ℕ) where
   judge-numbers =
       numbered-append judgeNumber (tableCauses 0 left) afterLeft (table-numbers judgeNumber 0 (tt, (tt, (tt, (tt, (tt, (tt, (tt, (tt, (tt, tt))))))))) left)
       (numbered-append judgeNumber (tableCauses 1 right) afterRight (table-numbers judgeNumber 1 (tt, (tt, (tt, (tt, (tt, (tt, (tt, (tt, (tt, tt))))))))) right)
-      (numbered-append judgeNumber (certificateCauses 2 (sizesOf left right) c) afterCertificate (certificate-numbers judgeNumber 2 (tt, (tt, (tt, (tt, (tt, (tt, tt)))))) (sizesOf left right) c) (
+      (numbered-append judgeNumber (certificateCauses 2 (sizesOf left right) c) afterCertificate
+      (certificate-numbers judgeNumber 2 (tt, (tt, (tt, (tt, (tt, (tt, tt)))))) (sizesOf left right) c) (
         tt,
         numbered-flat judgeNumber (checkCauses (certifiedView left right c) (certifiedRanks left right c))
             (check-numbers judgeNumber (tt, (tt, (tt, tt))) (certifiedView left right c) (certifiedRanks left right c)) (checks (certifiedView left right c)),

@@ -3,7 +3,6 @@ use Prim.Native.Nat.{ℕ}
 use mathlib.Core.Path.{_≡_}
 use mathlib.Core.List.{List}
 use Rattle.answers.specs.Verdicts.{refusalOf}
-use Rattle.tables.specs.Table.{startOf}
 use Rattle.tables.specs.declared.Head.{Head}
 use Rattle.table_reader.specs.TableReading.{readTable}
 use Rattle.table_reader.specs.TableAnswers.{tableVerdict}
@@ -17,7 +16,7 @@ use Rattle.certificate_reader.specs.CertificateAnswers.{certificateVerdict}
 use Rattle.certificate_reader.specs.declared.CertificateRefusal.{CertificateRefusal}
 use Rattle.certificate_reader.specs.declared.CertificateRead.{CertificateRead}
 use Rattle.certificate_reader.specs.declared.CertificateRead.the-variants as certificate
-use Rattle.checker.specs.Judge.{judgedBytes, judgeVerdict, answerAfter, judgeAnswer}
+use Rattle.checker.specs.Judge.{judgeVerdict, readAnswer, judgeAnswer}
 
 module _ (left right c : List ℕ) where
   pub left-refused : {x : TableRead} {r : TableRefusal} → x ≡ readTable left → x ≡ table.Refused r → refusalOf (tableVerdict 0 x) ≡ judgeAnswer left right c
@@ -35,6 +34,6 @@ module _ (left right c : List ℕ) where
       unfolding judgeAnswer judgeVerdict
       certificate-refused e q = rw (gl, gr, ← e, q)
 
-      pub all-read : {z : Sizes} → readCertificate (sizesOf left right) c ≡ certificate.Good z → judgeAnswer left right c ≡ answerAfter left right c (judgedBytes left right c (startOf left) (startOf right))
+      pub all-read : {z : Sizes} → readCertificate (sizesOf left right) c ≡ certificate.Good z → judgeAnswer left right c ≡ readAnswer left right c
       unfolding judgeAnswer judgeVerdict
       all-read gc = rw (gl, gr, gc)

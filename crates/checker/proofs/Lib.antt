@@ -1,9 +1,8 @@
-pub mod BuildLaws
-pub mod BytesLaws
-pub mod JudgeLaws
-pub mod PlanLaws
 pub mod ProgressLaws
-pub mod RowLaws
-pub mod SideLaws
+pub mod SweepLaws
+pub mod CheckLaws
+pub mod SideVerdictLaws
+pub mod JudgeReadLaws
+pub mod JudgeLaws
 pub mod TallyLaws
 pub mod JudgeCauseLaws

@@ -13,7 +13,8 @@ use Rattle.obligations.specs.declared.Clause.the-variants.{Step, Stutter, Match
 use Rattle.checker.specs.declared.Tally.{Tally}
 use Rattle.checker.specs.declared.Progress.{Progress}
 use Rattle.checker.specs.declared.Progress.the-variants.{On, Stop}
-use Rattle.checker.specs.Progress.{addTo, total, tallied, asProgress, progress, acceptance, endAnswer}
+use Rattle.checker.specs.Tallies.{addTo, total, tallied, acceptance}
+use Rattle.checker.specs.SideVerdicts.{asProgress, progress, endAnswer}
 
 -- a judge that goes on has not stopped
 pub on-not-stop : {y : Tally} {a : Answer} → _≡_ {A = Progress} (On y) (Stop a) → ⊥

@@ -14,12 +14,13 @@ use Rattle.obligations.specs.Judging.{Check, labelsOf, leftStep, rightStep, Fin
 use Rattle.obligations.specs.CheckCauses.{MetFirstBy, CheckMetBy}
 use Rattle.obligations.proofs.JudgingLaws.{Found, check-decided}
 use Rattle.checker.specs.declared.Tally.{Tally}
-use Rattle.checker.specs.Progress.{countOf, total, addTo, counted, tallied}
+use Rattle.checker.specs.Tallies.{countOf, total, addTo, counted, tallied}
 use Rattle.checker.proofs.ProgressLaws.{add-total}
 
 -- one clause is the first that holds, and the others are not
 first-only : (v : View) (r : Ranks) (j t : ℕ) (y : Tally) (k clause : Clause) → MetFirstBy v r j t k
-    → (MetFirstBy v r j t clause × (countOf clause (addTo y k) ≡ suc (countOf clause y))) ⊎ ((¬ MetFirstBy v r j t clause) × (countOf clause (addTo y k) ≡ countOf clause y))
+    → (MetFirstBy v r j t clause × (countOf clause (addTo y k) ≡ suc (countOf clause y)))
+    ⊎ ((¬ MetFirstBy v r j t clause) × (countOf clause (addTo y k) ≡ countOf clause y))
 first-only v r j t y Step Step p = inl (p, omega arith)
 first-only v r j t y Step Stutter p = inr (λ q. q .0 p, refl)
 first-only v r j t y Step Match p = inr (λ q. q .0 p, refl)
@@ -33,7 +34,8 @@ first-only v r j t y Match Match p = inl (p, omega arith)
 module _ (v : View) (r : Ranks) where
   -- what a check that goes on adds to the count of a clause, and to all counts
   found-counts : (clause : Clause) (c : Check) (y : Tally) (f : Finding) → Found v r c f
-      → (CheckMetBy v r clause c × (countOf clause (counted y f) ≡ suc (countOf clause y))) ⊎ ((¬ CheckMetBy v r clause c) × (countOf clause (counted y f) ≡ countOf clause y))
+      → (CheckMetBy v r clause c × (countOf clause (counted y f) ≡ suc (countOf clause y)))
+      ⊎ ((¬ CheckMetBy v r clause c) × (countOf clause (counted y f) ≡ countOf clause y))
   found-counts clause (labelsOf s t) y nothing e = inr (λ q. q, refl)
   found-counts clause (leftStep s t j) y nothing e = absurd (omega (arith, e))
   found-counts clause (rightStep s t j) y nothing e = absurd (omega (arith, e))

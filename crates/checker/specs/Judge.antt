@@ -21,12 +21,10 @@ use Rattle.certificates.specs.declared.Sizes.{Sizes}
 use Rattle.certificate_reader.specs.declared.CertificateRead.the-variants as certificate
 use Rattle.obligations.specs.Judging.{checks, startsVerdict, checkVerdict}
 use Rattle.checker.specs.declared.Tally.{Tally}
-use Rattle.checker.specs.Progress.{none, tallied, acceptance}
+use Rattle.checker.specs.Tallies.{none, tallied, acceptance}
 
--- Both tables and the certificate are read.
-pub record AllRead (left right c : List ℕ) : Type 0 where
-  pub head : Head
-  pub head′ : Head
+-- Both tables and the certificate are read, the tables with these headers.
+pub record AllRead (left right c : List ℕ) (head head′ : Head) : Type 0 where
   pub sizes : Sizes
   pub left-good : readTable left ≡ table.Good head
   pub right-good : readTable right ≡ table.Good head′
@@ -55,6 +53,10 @@ judgeVerdict left right c =
 -- The answer after a verdict: the refusal's, or that of an acceptance, with the related pairs of the certificate's rows and the obligations counted.
 abbrev pub answerAfter : List ℕ → List ℕ → List ℕ → Verdict Tally → Answer
 answerAfter left right c = answerOf (acceptance (pairsIn (rowsPart c (sizesOf left right)) (statesOf left)))
+
+-- The answer where all three are read.
+abbrev pub readAnswer : List ℕ → List ℕ → List ℕ → Answer
+readAnswer left right c = answerAfter left right c (judgedBytes left right c (startOf left) (startOf right))
 
 unfoldable pub judgeAnswer : List ℕ → List ℕ → List ℕ → Answer
 judgeAnswer left right c = answerAfter left right c (judgeVerdict left right c)

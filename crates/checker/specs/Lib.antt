@@ -1,4 +1,4 @@
-pub mod Progress
-pub mod Plan
+pub mod Tallies
+pub mod SideVerdicts
 pub mod Judge
 pub mod JudgeCauses

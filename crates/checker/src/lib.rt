@@ -1,41 +1,44 @@
-// The judge: six numbers for any three byte strings. What it looks at is worked out once a call, as words, so that an obligation costs a few
+// The judge: six numbers for any three byte strings. What it looks at stands in two sides, which are made once a call, so that an obligation costs a few
 // instructions and no list of steps is searched for one.
 use answers::Answer;
 use certificate_reader::CertificateRead;
 use certificate_reader::read_certificate;
 use certificates::Sizes;
-use certificates::row;
 use certificates::rows;
-use lists::byte;
-use lists::part_of;
+use obligations::Checked;
 use obligations::Clause;
-use obligations::Facing;
-use obligations::Failure;
 use obligations::Outcome;
-use obligations::obligation;
-use relations::column_words;
-use relations::row_words;
+use obligations::Place;
+use obligations::Run;
+use obligations::check_starts;
+use obligations::obligation_at;
+use sides::Side;
+use sides::column_words;
+use sides::first;
+use sides::label;
+use sides::next;
+use sides::related;
+use sides::row_words;
+use sides::side_of;
+use sides::states;
 use table_reader::TableRead;
 use table_reader::read_table;
 use table_reader::table_answer;
-use tables::from;
-use tables::label;
+use tables::Head;
 use tables::labels;
 use tables::steps;
-use tables::to;
 use words::Row;
 ghost use mathlib.Core.Path.{_≡_};
-ghost use Prim.Native.Nat.{_+_, _*_, _^_, _≤_, _<_};
-ghost use lib.ListN.{length, getD, drop};
-ghost use Rattle.tables.specs.Table.{statesOf};
+ghost use Prim.Native.Nat.{_^_, _<_};
+ghost use lib.ListN.{getD};
 ghost use Rattle.lists.specs.Below.{sumBelow};
 ghost use Rattle.words.specs.Bits.{countBits};
-ghost use Rattle.certificates.specs.declared.Sizes.{Sizes};
-ghost use Rattle.checker.specs.Progress.{none, addTo, total, progress, endAnswer};
-ghost use Rattle.checker.specs.Plan.{stepsIn, StatesPlanned, StepsPlanned, StepsFit, PlanOf, Links, Small, Within, leftRun, rightRun, failedAt, rankAt, outcomeAt, stepChecks, checksAt, rowChecks, allChecks};
 ghost use Rattle.answers.specs.Verdicts.{refusalOf};
 ghost use Rattle.certificate_reader.specs.CertificateAnswers.{certificateVerdict};
-ghost use Rattle.checker.specs.Judge.{AllRead, judgedBytes, answerAfter, judgeAnswer};
+ghost use Rattle.checker.specs.Tallies.{none, addTo, total};
+ghost use Rattle.checker.specs.SideVerdicts.{progress, endAnswer};
+ghost use Rattle.checker.specs.SideVerdicts.{swept, pairVerdicts, rowVerdicts, allVerdicts};
+ghost use Rattle.checker.specs.Judge.{AllRead, readAnswer, judgeAnswer};
 
 // How many obligations each clause has met.
 pub struct Tally {
@@ -48,20 +51,6 @@ pub struct Tally {
 enum Progress {
     On(Tally),
     Stop(Answer),
-}
-
-// Where the A ranks and the C ranks of a side begin in a certificate, and how many states the other side has.
-struct Run {
-    stutter: usize,
-    matches: usize,
-    states: usize,
-}
-
-// A related pair, seen from a side: 0 left, 1 right.
-struct Place {
-    side: usize,
-    own: usize,
-    other: usize,
 }
 
 impl Tally {
@@ -89,157 +78,57 @@ impl Tally {
     }
 }
 
-impl Run {
-    // The left side's runs.
-    fn left(sizes: Sizes) -> Run
-        ensures { λ r. ⌜ r ≡ leftRun sizes ⌝ }
-    {
-        Run {
-            stutter: sizes.al_at(),
-            matches: sizes.cl_at(),
-            states: sizes.n2 as usize,
-        }
-    }
-
-    // The right side's runs.
-    fn right(sizes: Sizes) -> Run
-        ensures { λ r. ⌜ r ≡ rightRun sizes ⌝ }
-    {
-        Run {
-            stutter: sizes.ar_at(),
-            matches: sizes.cr_at(),
-            states: sizes.n1 as usize,
-        }
-    }
-}
-
-// The answer where the obligation of own step j fails at the place.
-fn failed(place: Place, j: usize, failure: Failure) -> Answer
-    ensures { λ r. ⌜ r ≡ failedAt place j failure ⌝ }
-{
-    let code = failure.number();
-    if place.side == 0 {
-        return Answer {
-            code,
-            file: 2,
-            a: 0,
-            b: place.own,
-            c: place.other,
-            d: j,
-        };
-    }
-    Answer {
-        code,
-        file: 2,
-        a: place.side,
-        b: place.other,
-        c: place.own,
-        d: j,
-    }
-}
-
-// The A rank of the own state s at the place's other state.
-fn rank_at(certificate: &[u8], run: Run, place: Place, s: usize) -> usize
-    requires { ⌜ Within run place × (s < 256) ⌝ }
-    ensures { λ r. ⌜ r ≡ rankAt (now (certificate .entry)) run place s ⌝ }
-{
-    let at = run.stutter;
-    let n = run.states;
-    let t = place.other;
-    byte(certificate, at + (s * n + t))
-}
-
-// The certificate from the C ranks of own step j on.
-fn ranks_from(certificate: &[u8], run: Run, j: usize) -> &[u8]
-    requires { ⌜ (run .matches < 2 ^ 32) × (run .states < 256) × (j < 256) ⌝ }
-    ensures { λ r. ⌜ now r ≡ drop (run .matches + j * run .states) (now (certificate .entry)) ⌝ }
-{
-    let at = run.matches;
-    let n = run.states;
-    part_of(certificate, at + j * n, certificate.len())
-}
-
-// The outcome of the obligation of own step j at the place. `ahead` has the states that steps from the place's other state enter.
-fn outcome_at(
-    steps: &[u8],
-    plan: &[u64],
-    ahead: Row,
-    certificate: &[u8],
-    run: Run,
-    place: Place,
-    j: usize,
-) -> Outcome
-    requires { ⌜ (length (now plan) ≡ 512) × Within run place × (j < 256) ⌝ }
-    ensures { λ r. ⌜ r ≡ outcomeAt (now (steps .entry)) (now (plan .entry)) (ahead .0) (now (certificate .entry)) run place j ⌝ }
-{
-    let s = place.own;
-    let u = to(steps, j);
-    let target = Row(plan[u]);
-    // Most obligations are met by 2a, which looks at no rank.
-    let met = ahead.intersect(target);
-    if met.first() < 64 {
-        return Outcome::Met(Clause::Step);
-    }
-    let facing = Facing {
-        from: Row(plan[s]),
-        to: target,
-        answering: ahead,
-        silent: ahead,
-        quiet: true,
-    };
-    let before = rank_at(certificate, run, place, s);
-    let after = rank_at(certificate, run, place, u);
-    let ranks = ranks_from(certificate, run, j);
-    obligation(facing, place.other, before, after, ranks)
-}
-
-// The obligations of the own steps from the place's own state, in table order.
+// The obligations of our steps from the place's own state, in the order in which the links lead along them.
 fn sweep(
-    steps: &[u8],
-    plan: &[u64],
-    ahead: Row,
+    ours: &Side,
+    theirs: &Side,
     certificate: &[u8],
     run: Run,
     place: Place,
     tally: Tally,
 ) -> Progress
-    requires { ⌜ Links (now steps) (now plan) × Within run place × (total tally < 2 ^ 31) ⌝ }
-    ensures { λ r. ⌜ r ≡ progress (stepChecks (now (steps .entry)) (now (plan .entry)) (ahead .0) (now (certificate .entry)) run place) tally ⌝ }
+    requires { ⌜ total tally < 2 ^ 31 ⌝ }
+    ensures { λ r. ⌜ r ≡ progress (swept (now (ours .entry)) (now (theirs .entry)) (now (certificate .entry)) run place) tally ⌝ }
 {
     let s = place.own;
+    let t = place.other;
     let mut met = tally;
-    let mut j = plan[128 + s] as usize;
-    while j < 256 {
-        let outcome = outcome_at(steps, plan, ahead, certificate, run, place, j);
+    let mut j = first(ours, s);
+    while j < Head::MAX_STEPS {
+        let outcome = obligation_at(ours, theirs, certificate, run, j, t);
         match outcome {
             Outcome::Met(clause) => {
                 met = met.add(clause);
             }
             Outcome::Failed(failure) => {
-                return Progress::Stop(failed(place, j, failure));
+                let code = failure.number();
+                return Progress::Stop(place.step_answer(code, j));
             }
         }
-        j = plan[256 + j] as usize;
+        let later = next(ours, j);
+        if later <= j {
+            return Progress::On(met);
+        }
+        j = later;
     }
     Progress::On(met)
 }
 
 // The checks of the related pair s, t: the labels, then the left steps from s, then the right steps from t.
 fn check_pair(
-    left: &[u8],
-    right: &[u8],
-    ours: &[u64],
-    theirs: &[u64],
+    ours: &Side,
+    theirs: &Side,
     certificate: &[u8],
-    sizes: Sizes,
+    left: Run,
+    right: Run,
     s: usize,
     t: usize,
     tally: Tally,
 ) -> Progress
-    requires { ⌜ Links (now left) (now ours) × Links (now right) (now theirs) × Small sizes × (s < 64) × (t < 64) × (total tally < 2 ^ 30) ⌝ }
-    ensures { λ r. ⌜ r ≡ progress (checksAt (now (left .entry)) (now (right .entry)) (now (ours .entry)) (now (theirs .entry)) (now (certificate .entry)) sizes s t) tally ⌝ }
+    requires { ⌜ total tally < 2 ^ 30 ⌝ }
+    ensures { λ r. ⌜ r ≡ progress (pairVerdicts (now (ours .entry)) (now (theirs .entry)) (now (certificate .entry)) left right s t) tally ⌝ }
 {
-    if ours[192 + s] != theirs[192 + t] {
+    if label(ours, s) != label(theirs, t) {
         return Progress::Stop(Answer {
             code: 17,
             file: 2,
@@ -254,15 +143,7 @@ fn check_pair(
         own: s,
         other: t,
     };
-    let first = sweep(
-        left,
-        ours,
-        Row(theirs[64 + t]),
-        certificate,
-        Run::left(sizes),
-        from_s,
-        tally,
-    );
+    let first = sweep(ours, theirs, certificate, left, from_s, tally);
     let Progress::On(met) = first else {
         return first;
     };
@@ -271,38 +152,30 @@ fn check_pair(
         own: t,
         other: s,
     };
-    sweep(
-        right,
-        theirs,
-        Row(ours[64 + s]),
-        certificate,
-        Run::right(sizes),
-        from_t,
-        met,
-    )
+    sweep(theirs, ours, certificate, right, from_t, met)
 }
 
 // The checks of the left state s with the states related to it, in rising order.
 fn check_row(
-    left: &[u8],
-    right: &[u8],
-    ours: &[u64],
-    theirs: &[u64],
+    ours: &Side,
+    theirs: &Side,
     certificate: &[u8],
-    sizes: Sizes,
+    left: Run,
+    right: Run,
     s: usize,
     tally: Tally,
 ) -> Progress
-    requires { ⌜ Links (now left) (now ours) × Links (now right) (now theirs) × Small sizes × (s < 64) × (total tally < 2 ^ 29) ⌝ }
-    ensures { λ r. ⌜ r ≡ progress (rowChecks (now (left .entry)) (now (right .entry)) (now (ours .entry)) (now (theirs .entry)) (now (certificate .entry)) sizes s) tally ⌝ }
+    requires { ⌜ total tally < 2 ^ 29 ⌝ }
+    ensures { λ r. ⌜ r ≡ progress (rowVerdicts (now (ours .entry)) (now (theirs .entry)) (now (certificate .entry)) left right s) tally ⌝ }
 {
+    let n = states(theirs);
     let mut met = tally;
-    let mut rest = Row(ours[s]);
+    let mut rest = related(ours, s);
     let mut t = rest.first();
-    while t < 64 {
-        let next = check_pair(left, right, ours, theirs, certificate, sizes, s, t, met);
-        let Progress::On(more) = next else {
-            return next;
+    while t < n {
+        let end = check_pair(ours, theirs, certificate, left, right, s, t, met);
+        let Progress::On(more) = end else {
+            return end;
         };
         met = more;
         rest = rest.remove(t);
@@ -312,18 +185,10 @@ fn check_row(
 }
 
 // All checks after the starts, in judging order.
-fn check_all(
-    left: &[u8],
-    right: &[u8],
-    ours: &[u64],
-    theirs: &[u64],
-    certificate: &[u8],
-    sizes: Sizes,
-) -> Progress
-    requires { ⌜ Links (now left) (now ours) × Links (now right) (now theirs) × Small sizes × (sizes .n1 ≤ 64) ⌝ }
-    ensures { λ r. ⌜ r ≡ progress (allChecks (now (left .entry)) (now (right .entry)) (now (ours .entry)) (now (theirs .entry)) (now (certificate .entry)) sizes) none ⌝ }
+fn check_all(ours: &Side, theirs: &Side, certificate: &[u8], left: Run, right: Run) -> Progress
+    ensures { λ r. ⌜ r ≡ progress (allVerdicts (now (ours .entry)) (now (theirs .entry)) (now (certificate .entry)) left right) none ⌝ }
 {
-    let n = sizes.n1 as usize;
+    let n = states(ours);
     let mut met = Tally {
         steps: 0,
         stutters: 0,
@@ -331,9 +196,9 @@ fn check_all(
     };
     let mut s: usize = 0;
     while s < n {
-        let next = check_row(left, right, ours, theirs, certificate, sizes, s, met);
-        let Progress::On(more) = next else {
-            return next;
+        let end = check_row(ours, theirs, certificate, left, right, s, met);
+        let Progress::On(more) = end else {
+            return end;
         };
         met = more;
         s += 1;
@@ -341,59 +206,13 @@ fn check_all(
     Progress::On(met)
 }
 
-// The plan's words of states: their relatives and labels, and no step yet.
-fn plan_states(labels: &[u8], words: &[u64]) -> [u64; 512]
-    requires { ⌜ length (now words) ≡ 64 ⌝ }
-    ensures { λ r. ⌜ StatesPlanned (now (labels .entry)) (now (words .entry)) 64 r ⌝ }
-{
-    let mut plan: [u64; 512] = [0; 512];
-    let mut s: usize = 0;
-    while s < 64 {
-        plan[s] = words[s];
-        plan[128 + s] = 256;
-        plan[192 + s] = label(labels, s);
-        s += 1;
-    }
-    plan
-}
-
-// The plan with the steps linked, from the last to the first.
-fn plan_steps(states: [u64; 512], steps: &[u8]) -> [u64; 512]
-    requires { ⌜ StepsFit (now steps) × StepsPlanned (now steps) states (stepsIn (now steps)) states ⌝ }
-    ensures { λ r. ⌜ StepsPlanned (now (steps .entry)) states 0 r ⌝ }
-{
-    let mut plan = states;
-    let mut j = steps.len() / 2;
-    while 0 < j {
-        j -= 1;
-        let s = from(steps, j);
-        let first = plan[128 + s];
-        let entered = Row(plan[64 + s]);
-        let more = entered.add(to(steps, j));
-        plan[64 + s] = more.0;
-        plan[128 + s] = j as u64;
-        plan[256 + j] = first;
-    }
-    plan
-}
-
-// The plan of a side, where the words have the states related to each of its own.
-fn plan_side(labels: &[u8], words: &[u64], steps: &[u8]) -> [u64; 512]
-    requires { ⌜ (length (now words) ≡ 64) × StepsFit (now steps) ⌝ }
-    ensures { λ r. ⌜ PlanOf (now (labels .entry)) (now (words .entry)) (now (steps .entry)) r ⌝ }
-{
-    let states = plan_states(labels, words);
-    plan_steps(states, steps)
-}
-
 // The related pairs: the ones of all words.
-fn count_pairs(words: &[u64]) -> usize
-    requires { ⌜ length (now words) ≡ 64 ⌝ }
+fn count_pairs(words: &[u64; Head::MAX_STATES]) -> usize
     ensures { λ r. ⌜ r ≡ sumBelow 64 (λ s. countBits (getD (now (words .entry)) s 0)) ⌝ }
 {
     let mut pairs: usize = 0;
     let mut s: usize = 0;
-    while s < 64 {
+    while s < Head::MAX_STATES {
         let word = Row(words[s]);
         pairs += word.count();
         s += 1;
@@ -418,33 +237,30 @@ fn end_answer(end: Progress, pairs: usize) -> Answer
     }
 }
 
-// The judge's answer where all three files are read: s and t are the starts.
-fn judge_read(left: &[u8], right: &[u8], certificate: &[u8], s: usize, t: usize) -> Answer
-    requires { ⌜ AllRead (now left) (now right) (now certificate) × (s < statesOf (now left)) ⌝ }
-    ensures { λ r. ⌜ r ≡ answerAfter (now (left .entry)) (now (right .entry)) (now (certificate .entry)) (judgedBytes (now (left .entry)) (now (right .entry)) (now (certificate .entry)) s t) ⌝ }
+// The judge's answer where all three files are read, from the headers of the two tables.
+fn judge_read(left: &[u8], right: &[u8], certificate: &[u8], head: Head, head2: Head) -> Answer
+    requires { ⌜ AllRead (now left) (now right) (now certificate) head head2 ⌝ }
+    ensures { λ r. ⌜ r ≡ readAnswer (now (left .entry)) (now (right .entry)) (now (certificate .entry)) ⌝ }
 {
-    let sizes = Sizes::of(left, right);
-    let rows = rows(certificate, sizes);
-    let word = row(rows, s);
-    if !word.has(t) {
-        return Answer {
-            code: 16,
-            file: 2,
-            a: s,
-            b: t,
-            c: 0,
-            d: 0,
-        };
-    }
-    let words = row_words(rows, sizes.n1 as usize);
+    let sizes = Sizes::of(head, head2);
+    let words = row_words(rows(certificate, sizes), sizes.n1 as usize);
     let columns = column_words(&words);
-    let pairs = count_pairs(&words);
-    let left_steps = steps(left);
-    let right_steps = steps(right);
-    let ours = plan_side(labels(left), &words, left_steps);
-    let theirs = plan_side(labels(right), &columns, right_steps);
-    let end = check_all(left_steps, right_steps, &ours, &theirs, certificate, sizes);
-    end_answer(end, pairs)
+    let ours = side_of(head, labels(left), steps(left), &words);
+    let theirs = side_of(head2, labels(right), steps(right), &columns);
+    let starts = check_starts(&ours, &theirs);
+    match starts {
+        Checked::Passed => {
+            let end = check_all(
+                &ours,
+                &theirs,
+                certificate,
+                Run::left(sizes),
+                Run::right(sizes),
+            );
+            end_answer(end, count_pairs(&words))
+        }
+        Checked::Refused(answer) => answer,
+    }
 }
 
 // The answer of a certificate's read that is refused; for any other it is blank.
@@ -469,18 +285,16 @@ pub fn judge(left: &[u8], right: &[u8], certificate: &[u8]) -> Answer
     ensures { λ r. ⌜ r ≡ judgeAnswer (now (left .entry)) (now (right .entry)) (now (certificate .entry)) ⌝ }
 {
     let first = read_table(left);
-    let TableRead::Good(ours) = first else {
+    let TableRead::Good(head) = first else {
         return table_answer(first, 0);
     };
     let second = read_table(right);
-    let TableRead::Good(theirs) = second else {
+    let TableRead::Good(head2) = second else {
         return table_answer(second, 1);
     };
-    let third = read_certificate(certificate, Sizes::of(left, right));
+    let third = read_certificate(certificate, Sizes::of(head, head2));
     let CertificateRead::Good(_) = third else {
         return certificate_answer(third);
     };
-    let s = ours.initial;
-    let t = theirs.initial;
-    judge_read(left, right, certificate, s.first(), t.first())
+    judge_read(left, right, certificate, head, head2)
 }

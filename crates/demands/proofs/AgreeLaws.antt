@@ -21,8 +21,21 @@ side-agree v w q r a m j t l h = go (m j t l h)
 
     go : Meets v q j t → Meets v r j t
     go (inl x) = inl x
-    go (inr (inl x)) = inr (inl (x .0, x .1, rw (← (a .stutter (v .own .to j) t (w .here .to< j l) t<), ← (a .stutter (v .own .from j) t (w .here .from< j l) t<)) (x .2)))
-    go (inr (inr x)) = inr (inr (x .0, x .1, x .2, x .3, x .4, rw (← (a .match j (v .other .to (x .0)) l (w .there .to< (x .0) (x .1))), ← (a .match j t l t<)) (x .5)))
+    go (inr (inl x)) = inr (inl (
+      x .0,
+      rw (
+        ← (a .stutter (v .own .to j) t (w .here .to< j l) t<),
+        ← (a .stutter (v .own .from j) t (w .here .from< j l) t<),
+      ) (x .1),
+    ))
+    go (inr (inr x)) = inr (inr (
+      x .0,
+      x .1,
+      x .2,
+      x .3,
+      x .4,
+      rw (← (a .match j (v .other .to (x .0)) l (w .there .to< (x .0) (x .1))), ← (a .match j t l t<)) (x .5),
+    ))
 
 pub accepts-agree : (v : View) → WellFormed v → (q r : Ranks) → AgreeInside v q r → AgreeInside (flip v) (swap q) (swap r) → T (accepts v q) → T (accepts v r)
 accepts-agree v w q r a b h =

@@ -13,8 +13,8 @@ use borrow.Author.Tests.{lt-ltb, le-ltb, eq-eqb, ne-eqb}
 use Rattle.lists.specs.Below.{sumBelow, countBelow}
 use Rattle.lists.specs.Lists.{joinBelow}
 use Rattle.lists.proofs.BelowLaws.{sum-cong, sum-le, sum-more}
-use Rattle.bisimulation.specs.Systems.{System, View}
-use Rattle.obligations.specs.Judging.{stepsFrom, Check, leftStep, rightStep, pairChecks, checks, countObligations}
+use Rattle.bisimulation.specs.Systems.{System, View, stepsFrom}
+use Rattle.obligations.specs.Judging.{Check, leftStep, rightStep, pairChecks, checksBy, checks, countObligations}
 use Rattle.demands.specs.Demand1.{degree, obligationsOf}
 
 -- ---- the obligations of the list of checks
@@ -52,7 +52,7 @@ length-steps S s = length-join (S .steps) _ ∙ sum-cong (S .steps) _ _ (λ j l.
     one true j = refl
     one false j = refl
 
-count-pair : (v : View) (s t : ℕ) → countObligations (pairChecks v s t) ≡ degree (v .own) s + degree (v .other) t
+count-pair : (v : View) (s t : ℕ) → countObligations (pairChecks (stepsFrom (v .own)) (stepsFrom (v .other)) s t) ≡ degree (v .own) s + degree (v .other) t
 unfolding pairChecks countObligations
 count-pair v s t =
     let a = count-append (map (leftStep s t) (stepsFrom (v .own) s)) (map (rightStep s t) (stepsFrom (v .other) t)) in
@@ -66,10 +66,12 @@ count-when true cs e = e
 count-when false cs e = refl
 
 pub count-checks : (v : View) → countObligations (checks v) ≡ obligationsOf v
-unfolding checks obligationsOf
+unfolding checks checksBy obligationsOf
 count-checks v =
     count-join (v .own .states) _
-    ∙ sum-cong (v .own .states) _ _ (λ s l. count-join (v .other .states) _ ∙ sum-cong (v .other .states) _ _ (λ t k. count-when (v .related s t) (pairChecks v s t) (count-pair v s t)))
+    ∙ sum-cong (v .own .states) _ _
+    (λ s l. count-join (v .other .states) _ ∙ sum-cong (v .other .states) _ _
+    (λ t k. count-when (v .related s t) (pairChecks (stepsFrom (v .own)) (stepsFrom (v .other)) s t) (count-pair v s t)))
 
 -- ---- at most m1 n2 + m2 n1
 
@@ -143,7 +145,12 @@ obligations-most v =
     let d′ = degree (v .other) in
     let D : ℕ = sumBelow n′ d′ in
     let row : (s : ℕ) → sumBelow n′ (λ t. d s + d′ t) ≡ n′ * d s + D = λ s. sum-add n′ (λ t. d s) d′ ∙ ap (λ (k : ℕ). k + D) (sum-const n′ (d s)) in
-    let a = sum-le n (λ s. sumBelow n′ (λ t. cond (v .related s t) (d s + d′ t) 0)) (λ s. n′ * d s + D) (λ s l. let q = sum-le n′ (λ t. cond (v .related s t) (d s + d′ t) 0) (λ t. d s + d′ t) (λ t k. at-most (v .related s t) (d s + d′ t)) in let r = row s in omega arith) in
+    let a =
+    sum-le n (λ s. sumBelow n′ (λ t. cond (v .related s t) (d s + d′ t) 0)) (λ s. n′ * d s + D)
+    (λ s l.
+    let q = sum-le n′ (λ t. cond (v .related s t) (d s + d′ t) 0) (λ t. d s + d′ t) (λ t k. at-most (v .related s t) (d s + d′ t)) in
+    let r = row s in
+    omega arith) in
     let b = sum-add n (λ s. n′ * d s) (λ s. D) in
     let c = sum-const n D in
     let e = side-most (v .own) n n′ in

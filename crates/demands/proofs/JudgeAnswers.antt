@@ -25,7 +25,7 @@ use Rattle.obligations.specs.declared.Clause.{Clause}
 use Rattle.obligations.specs.declared.Clause.the-variants.{Step, Stutter, Match}
 use Rattle.obligations.specs.CheckCauses.{CheckMetBy}
 use Rattle.obligations.specs.Judging.{checks, startsVerdict}
-use Rattle.checker.specs.Progress.{none, countOf, acceptance}
+use Rattle.checker.specs.Tallies.{none, countOf, acceptance}
 use Rattle.checker.specs.Judge.{pairsIn, judged, judgedBytes, judgeVerdict, judgeAnswer}
 use Rattle.checker.specs.JudgeCauses.{judgeCauses, judgeNumber}
 use Rattle.checker.specs.declared.Tally.{Tally}
@@ -60,7 +60,9 @@ module _ (left right c : List ℕ) where
       let d = then-on (certificateVerdict 2 (readCertificate (sizesOf left right) c)) (b .2) in
       let f = then-on (startsVerdict v (startOf left) (startOf right)) (d .2) in
       let count : (clause : Clause) → Counts (CheckMetBy v r clause) (checks v) (countOf clause y) =
-      λ clause. let k = along-counts v r clause (checks v) none y (f .2) in subst (Counts (CheckMetBy v r clause) (checks v)) (sym (k .2 ∙ from-none clause (k .0))) (k .1) in
+      λ clause.
+      let k = along-counts v r clause (checks v) none y (f .2) in
+      subst (Counts (CheckMetBy v r clause) (checks v)) (sym (k .2 ∙ from-none clause (k .0))) (k .1) in
       let s = along-total v r (checks v) none y (f .2) in
       let t = count-checks v in
       let m = most in
@@ -79,15 +81,22 @@ module _ (left right c : List ℕ) where
   pub judge-answers : JudgeAnswers left right c (judgeAnswer left right c)
   unfolding judgeAnswer
   judge-answers =
-      decided-answer (Accepted left right c) (acceptance (pairsIn (rowsPart c (sizesOf left right)) (statesOf left))) (judgeVerdict left right c) (judge-decided left right c) (λ y e n. counted y e)
+      decided-answer (Accepted left right c) (acceptance (pairsIn (rowsPart c (sizesOf left right)) (statesOf left)))
+      (judgeVerdict left right c) (judge-decided left right c) (λ y e n. counted y e)
 
   -- each refusal is answered exactly where its cause is the first that applies
   pub judge-refuses : (a : Answer) → FirstCause (judgeCauses left right c) a ↔ ((judgeAnswer left right c ≡ a) × (¬ (a .code ≡ 0)))
-  judge-refuses = refused-iff (Accepted left right c) (judgeCauses left right c) (judgeAnswer left right c) judge-answers judgeNumber (judge-numbers left right c) (λ file h. h) (λ a s. s .code-0)
+  judge-refuses =
+      refused-iff (Accepted left right c) (judgeCauses left right c) (judgeAnswer left right c) judge-answers
+      judgeNumber (judge-numbers left right c) (λ file h. h) (λ a s. s .code-0)
 
   -- the code is 0 exactly where no cause applies
   pub zero-accepted : judgeAnswer left right c .code ≡ 0 → NoCause (judgeCauses left right c) × Accepted left right c (judgeAnswer left right c)
-  zero-accepted = zero-none (Accepted left right c) (judgeCauses left right c) (judgeAnswer left right c) judge-answers judgeNumber (judge-numbers left right c) (λ file h. h) (λ a s. s .code-0)
+  zero-accepted =
+      zero-none (Accepted left right c) (judgeCauses left right c) (judgeAnswer left right c) judge-answers
+      judgeNumber (judge-numbers left right c) (λ file h. h) (λ a s. s .code-0)
 
   pub accepted-zero : NoCause (judgeCauses left right c) → judgeAnswer left right c .code ≡ 0
-  accepted-zero = none-zero (Accepted left right c) (judgeCauses left right c) (judgeAnswer left right c) judge-answers judgeNumber (judge-numbers left right c) (λ file h. h) (λ a s. s .code-0)
+  accepted-zero =
+      none-zero (Accepted left right c) (judgeCauses left right c) (judgeAnswer left right c) judge-answers
+      judgeNumber (judge-numbers left right c) (λ file h. h) (λ a s. s .code-0)

@@ -29,7 +29,7 @@ use Rattle.certificate_reader.proofs.CertificateCauseLaws.{certificate-none-goo
 use Rattle.obligations.proofs.JudgingLaws.{none-iff}
 use Rattle.checker.specs.Judge.{judgeAnswer}
 use Rattle.checker.specs.JudgeCauses.{judgeCauses}
-use Rattle.checker.proofs.BytesLaws.{formed}
+use Rattle.checker.proofs.JudgeReadLaws.{formed}
 use Rattle.checker.proofs.JudgeCauseLaws.{afterCertificate, afterRight, afterLeft}
 use Rattle.demands.specs.Demand2.{AllWellFormed, JudgeExact}
 use Rattle.demands.proofs.JudgeAnswers.{zero-accepted, accepted-zero}
@@ -39,10 +39,13 @@ module _ (left right c : List ℕ) (bytes : AreBytes c) where
 
   module _ (w : AllWellFormed left right c) where
     pub formed-view : WellFormed (view left right c)
-    formed-view = formed left right c (formed-good left (w .left-formed)) (formed-good right (w .right-formed)) (certificate-none-good 2 (sizesOf left right) c (w .certificate-formed)) bytes
+    formed-view =
+        formed left right c (formed-good left (w .left-formed)) (formed-good right (w .right-formed))
+        (certificate-none-good 2 (sizesOf left right) c (w .certificate-formed)) bytes
 
     -- one start each: they are related
-    starts-iff : (InitialRelated (view left right c) × InitialRelated (flip (view left right c))) ↔ T (view left right c .related (startOf left) (startOf right))
+    starts-iff : (InitialRelated (view left right c) × InitialRelated (flip (view left right c)))
+        ↔ T (view left right c .related (startOf left) (startOf right))
     unfolding viewOf
     starts-iff =
         one-initial (view left right c) (startOf left) (startOf right)
@@ -55,7 +58,9 @@ module _ (left right c : List ℕ) (bytes : AreBytes c) where
     -- document 01's clauses are the paper's without the conjunct of 2c, with the rank of triples
     triples-are : Certified Meets (view left right c) (ranks left right c)
         ↔ (InitialStatesRelated (view left right c) × BisimulationWithoutConjunct (view left right c) _<_ (tripleRank (view left right c) (ranks left right c)))
-    triples-are = certified-iff-triples (view left right c) formed-view (view-plain left right (rowsPart c (sizesOf left right))) (no-twice .0) (no-twice .1) (ranks left right c)
+    triples-are =
+        certified-iff-triples (view left right c) formed-view (view-plain left right (rowsPart c (sizesOf left right)))
+        (no-twice .0) (no-twice .1) (ranks left right c)
 
   -- ---- where no cause applies
 
@@ -64,7 +69,11 @@ module _ (left right c : List ℕ) (bytes : AreBytes c) where
       let l = append-none (tableCauses 0 left) (afterLeft left right c) n in
       let r = append-none (tableCauses 1 right) (afterRight left right c) (l .1) in
       let d = append-none (certificateCauses 2 (sizesOf left right) c) (afterCertificate left right c) (r .1) in
-      let w : AllWellFormed left right c = record { left-formed = l .0; right-formed = good-formed right (none-good 1 right (r .0)); certificate-formed = d .0 } in
+      let w : AllWellFormed left right c = record {
+        left-formed = l .0;
+        right-formed = good-formed right (none-good 1 right (r .0));
+        certificate-formed = d .0;
+      } in
       let i = starts-iff w .1 (decides-stable (test-decides (view left right c .related (startOf left) (startOf right))) (d .1 .0)) in
       let m = none-iff (view left right c) (formed-view w) (ranks left right c) .0 (d .1 .1) in
       (w, record { initial = i .0; initial′ = i .1; labels = m .0; own-met = m .1; other-met = m .2 })
@@ -73,8 +82,10 @@ module _ (left right c : List ℕ) (bytes : AreBytes c) where
   certified-none w m =
       none-append (tableCauses 0 left) (afterLeft left right c) (w .left-formed)
       (none-append (tableCauses 1 right) (afterRight left right c) (good-none 1 right (formed-good right (w .right-formed)) .1)
-      (none-append (certificateCauses 2 (sizesOf left right) c) (afterCertificate left right c) (w .certificate-formed)
-      (λ n. n (starts-iff w .0 (m .initial, m .initial′)), none-iff (view left right c) (formed-view w) (ranks left right c) .1 (m .labels, m .own-met, m .other-met))))
+      (none-append (certificateCauses 2 (sizesOf left right) c) (afterCertificate left right c) (w .certificate-formed) (
+        λ n. n (starts-iff w .0 (m .initial, m .initial′)),
+        none-iff (view left right c) (formed-view w) (ranks left right c) .1 (m .labels, m .own-met, m .other-met),
+      )))
 
   -- the judge accepts where the theory's does, and only there
   pub accepts-code : AllWellFormed left right c → T (accepts (view left right c) (ranks left right c)) → judgeAnswer left right c .code ≡ 0

@@ -21,7 +21,7 @@ use Rattle.ranking.specs.Make.{makeVerdict, fileFor, answerAfter, outputAfter, 
 use Rattle.ranking.specs.MakerCauses.{makerCauses, makerNumber}
 use Rattle.ranking.proofs.MakerCauseLaws.{maker-decided, afterRelation, afterRight, afterLeft, maker-numbers}
 use Rattle.demands.specs.Demand1.{Made, MakerAnswers}
-use Rattle.demands.specs.Demand2.{Drawn}
+use Rattle.demands.specs.Demand2.{WellFormedInputs}
 
 module _ (left right relation output : List ℕ) where
   -- a refusal leaves the output as it was, whatever the lists
@@ -39,23 +39,38 @@ module _ (left right relation output : List ℕ) where
     unfolding makeAnswer
     maker-answers =
         record {
-          answers = decided-answer (Made left right) (λ x. sixNumbers 0 0 (certificateLength (sizesOf left right))) (makeVerdict left right relation output) (maker-decided left right relation output bytes) (λ x e n. refl);
+          answers =
+              decided-answer (Made left right) (λ x. sixNumbers 0 0 (certificateLength (sizesOf left right)))
+              (makeVerdict left right relation output) (maker-decided left right relation output bytes) (λ x e n. refl);
           untouched = untouched;
         }
 
     -- each refusal is answered exactly where its cause is the first that applies
     pub maker-refuses : (a : Answer) → FirstCause (makerCauses left right relation output) a ↔ ((makeAnswer left right relation output ≡ a) × (¬ (a .code ≡ 0)))
-    maker-refuses = refused-iff (Made left right) (makerCauses left right relation output) (makeAnswer left right relation output) (maker-answers .answers) makerNumber (maker-numbers left right relation output) (λ file h. h) (λ a s. ap (λ (x : Answer). x .code) s)
+    maker-refuses =
+        refused-iff (Made left right) (makerCauses left right relation output) (makeAnswer left right relation output)
+        (maker-answers .answers) makerNumber (maker-numbers left right relation output) (λ file h. h) (λ a s. ap (λ (x : Answer). x .code) s)
 
     -- where the code is 0 no cause applies
-    pub zero-made : makeAnswer left right relation output .code ≡ 0 → NoCause (makerCauses left right relation output) × Made left right (makeAnswer left right relation output)
-    zero-made = zero-none (Made left right) (makerCauses left right relation output) (makeAnswer left right relation output) (maker-answers .answers) makerNumber (maker-numbers left right relation output) (λ file h. h) (λ a s. ap (λ (x : Answer). x .code) s)
+    pub zero-made : makeAnswer left right relation output .code ≡ 0
+        → NoCause (makerCauses left right relation output) × Made left right (makeAnswer left right relation output)
+    zero-made =
+        zero-none (Made left right) (makerCauses left right relation output) (makeAnswer left right relation output)
+        (maker-answers .answers) makerNumber (maker-numbers left right relation output) (λ file h. h) (λ a s. ap (λ (x : Answer). x .code) s)
 
     -- a success says that the two tables and the relation are well formed and that the output is long enough
-    pub made-drawn : makeAnswer left right relation output .code ≡ 0 → Drawn left right relation × (certificateLength (sizesOf left right) ≤ length output)
-    made-drawn e =
+    pub made-given : makeAnswer left right relation output .code ≡ 0
+        → WellFormedInputs left right relation × (certificateLength (sizesOf left right) ≤ length output)
+    made-given e =
         let a = append-none (tableCauses 0 left) (afterLeft left right relation output) (zero-made e .0) in
         let b = append-none (tableCauses 1 right) (afterRight left right relation output) (a .1) in
         let c = append-none (relationCauses 2 (sizesOf left right) relation) (afterRelation left right relation output) (b .1) in
-        let room = c .1 .0 in
-        (record { left-formed = a .0; right-formed = good-formed right (none-good 1 right (b .0)); relation-formed = c .0; relation-bytes = bytes }, omega arith)
+        let room = c .1 .0 in (
+          record {
+            left-formed = a .0;
+            right-formed = good-formed right (none-good 1 right (b .0));
+            relation-formed = c .0;
+            relation-bytes = bytes;
+          },
+          omega arith,
+        )

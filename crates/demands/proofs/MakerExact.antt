@@ -31,44 +31,48 @@ use Rattle.files.specs.File.{certificateHeader, certificateFile}
 use Rattle.files.proofs.FileLaws.{file-length, file-rows, file-ranks}
 use Rattle.examination.proofs.ExamineLaws.{examined-succeeds}
 use Rattle.ranking.specs.Make.{madeVerdict, makeVerdict, fileFor, makeAnswer, makeOutput}
-use Rattle.ranking.proofs.MakeAnswers.{made-by, room-verdict}
+use Rattle.ranking.proofs.MakeAnswers.{read-inputs, made-by, room-verdict}
 use Rattle.ranking.proofs.MakerCauseLaws.{maker-decided}
 use Rattle.checker.specs.Judge.{judgeAnswer}
-use Rattle.demands.specs.Demand2.{Drawn}
+use Rattle.demands.specs.Demand2.{WellFormedInputs}
 use Rattle.demands.specs.Demand3.{DefinedFile, MakerExact}
 use Rattle.demands.proofs.MakerAnswers.{untouched, zero-made}
 use Rattle.demands.proofs.RankWords.{match-ranks, stutter-ranks, success-endless, match-agree, stutter-agree}
-use Rattle.demands.proofs.RelationsExact.{drawn-formed, drawn-read, drawn-length, drawn-few, accepted-file, file-accepted}
+use Rattle.demands.proofs.RelationsExact.{given-formed, given-read, given-length, given-few, accepted-file, file-accepted}
 
-module _ (left right relation output : List ℕ) (drawn : Drawn left right relation) (room : certificateLength (sizesOf left right) ≤ length output) where
+module _ (left right relation output : List ℕ) (given : WellFormedInputs left right relation)
+    (room : certificateLength (sizesOf left right) ≤ length output) where
   -- ---- all is read, so the answer is that of the examination
 
   examined-iff : (madeVerdict left right relation ≡ passed) ↔ T (succeeds (viewOf left right relation))
   unfolding madeVerdict viewOf
   examined-iff =
-      let r = drawn-read left right relation drawn in
-      examined-succeeds (viewOf left right relation) (drawn-formed left right relation drawn) (startOf left) (startOf right)
+      let r = given-read left right relation given in
+      examined-succeeds (viewOf left right relation) (given-formed left right relation given) (startOf left) (startOf right)
       (table-formed left (r .left-good) .one-initial) (table-formed right (r .right-good) .one-initial)
 
   property-iff : T (succeeds (viewOf left right relation)) ↔ PathProperty (viewOf left right relation)
-  property-iff = succeeds-iff-property (viewOf left right relation) (drawn-formed left right relation drawn) (view-plain left right relation)
+  property-iff = succeeds-iff-property (viewOf left right relation) (given-formed left right relation given) (view-plain left right relation)
 
   -- the maker goes on to the end exactly where the theory's succeeds
   succeeds-passed : T (succeeds (viewOf left right relation)) → makeVerdict left right relation output ≡ passed
-  succeeds-passed h = room-verdict left right relation output (drawn-read left right relation drawn) room ∙ examined-iff .1 h
+  succeeds-passed h = room-verdict left right relation output (read-inputs left right relation (given-read left right relation given)) room ∙ examined-iff .1 h
 
   zero-passed : makeAnswer left right relation output .code ≡ 0 → makeVerdict left right relation output ≡ passed
   zero-passed z =
-      none-on (makeVerdict left right relation output) (maker-decided left right relation output (drawn .relation-bytes)) (zero-made left right relation output (drawn .relation-bytes) z .0) .1
+      none-on (makeVerdict left right relation output) (maker-decided left right relation output (given .relation-bytes))
+      (zero-made left right relation output (given .relation-bytes) z .0) .1
 
   zero-succeeds : makeAnswer left right relation output .code ≡ 0 → T (succeeds (viewOf left right relation))
-  zero-succeeds z = examined-iff .0 (sym (room-verdict left right relation output (drawn-read left right relation drawn) room) ∙ zero-passed z)
+  zero-succeeds z =
+      examined-iff .0 (sym (room-verdict left right relation output (read-inputs left right relation (given-read left right relation given)) room)
+      ∙ zero-passed z)
 
   -- ---- the file
 
   file-long : length (fileFor left right relation) ≡ certificateLength (sizesOf left right)
   unfolding fileFor
-  file-long = file-length (sizesOf left right) relation (made (viewOf left right relation)) (drawn-length left right relation drawn)
+  file-long = file-length (sizesOf left right) relation (made (viewOf left right relation)) (given-length left right relation given)
 
   file-header : take 11 (fileFor left right relation) ≡ certificateHeader (sizesOf left right)
   unfolding fileFor certificateFile certificateHeader bigBytes
@@ -77,25 +81,29 @@ module _ (left right relation output : List ℕ) (drawn : Drawn left right relat
   file-defined : T (succeeds (viewOf left right relation)) → DefinedFile left right relation (fileFor left right relation)
   unfolding fileFor viewOf systemOf sizesOf
   file-defined h =
-      let w = drawn-formed left right relation drawn in
+      let w = given-formed left right relation given in
       let e = success-endless (viewOf left right relation) h in
-      let a = file-ranks (sizesOf left right) relation (made (viewOf left right relation)) (drawn-length left right relation drawn) in
+      let a = file-ranks (sizesOf left right) relation (made (viewOf left right relation)) (given-length left right relation given) in
       record {
         long = file-long;
         header = file-header;
-        rows = file-rows (sizesOf left right) relation (made (viewOf left right relation)) (drawn-length left right relation drawn);
+        rows = file-rows (sizesOf left right) relation (made (viewOf left right relation)) (given-length left right relation given);
         al = stutter-agree (viewOf left right relation) _ _ (λ s t k l. sym (a .stutter s t k l)) (stutter-ranks (viewOf left right relation) w (e .0));
-        ar = stutter-agree (flip (viewOf left right relation)) _ _ (λ t s k l. sym (a .stutter′ t s k l)) (stutter-ranks (flip (viewOf left right relation)) (flip-formed (viewOf left right relation) w) (e .1));
+        ar = stutter-agree (flip (viewOf left right relation)) _ _ (λ t s k l. sym (a .stutter′ t s k l))
+            (stutter-ranks (flip (viewOf left right relation)) (flip-formed (viewOf left right relation) w) (e .1));
         cl = match-agree (viewOf left right relation) _ _ (λ j t k l. sym (a .match j t k l)) (match-ranks (viewOf left right relation) w);
-        cr = match-agree (flip (viewOf left right relation)) _ _ (λ j s k l. sym (a .match′ j s k l)) (match-ranks (flip (viewOf left right relation)) (flip-formed (viewOf left right relation) w));
+        cr = match-agree (flip (viewOf left right relation)) _ _ (λ j s k l. sym (a .match′ j s k l))
+            (match-ranks (flip (viewOf left right relation)) (flip-formed (viewOf left right relation) w));
       }
 
   file-judged : T (succeeds (viewOf left right relation)) → judgeAnswer left right (fileFor left right relation) .code ≡ 0
   unfolding fileFor
   file-judged h =
-      let w = drawn-formed left right relation drawn in
-      let few = drawn-few left right relation drawn in
-      file-accepted left right relation drawn (made (viewOf left right relation)) (made-bytes (viewOf left right relation) w h (few .0) (few .1)) (made-accepted (viewOf left right relation) w h)
+      let w = given-formed left right relation given in
+      let few = given-few left right relation given in
+      file-accepted left right relation given (made (viewOf left right relation))
+      (made-bytes (viewOf left right relation) w h (few .0) (few .1))
+      (made-accepted (viewOf left right relation) w h)
 
   -- the file stands at the front of the output, and what is after it stays
   put-is : putFront (fileFor left right relation) output ≡ fileFor left right relation ++ drop (length (fileFor left right relation)) output
@@ -105,7 +113,10 @@ module _ (left right relation output : List ℕ) (drawn : Drawn left right relat
   front-is = ap (take (certificateLength (sizesOf left right))) put-is ∙ take-at (fileFor left right relation) _ _ file-long
 
   back-is : drop (certificateLength (sizesOf left right)) (putFront (fileFor left right relation) output) ≡ drop (certificateLength (sizesOf left right)) output
-  back-is = ap (drop (certificateLength (sizesOf left right))) put-is ∙ drop-at (fileFor left right relation) _ _ file-long ∙ ap (λ (n : ℕ). drop n output) file-long
+  back-is =
+      ap (drop (certificateLength (sizesOf left right))) put-is
+      ∙ drop-at (fileFor left right relation) _ _ file-long
+      ∙ ap (λ (n : ℕ). drop n output) file-long
 
   -- ---- the demand
 
@@ -123,10 +134,13 @@ module _ (left right relation output : List ℕ) (drawn : Drawn left right relat
           λ z. property-iff .0 (zero-succeeds z),
           λ p. ap (λ (a : Answer). a .code) (sym (made-by left right relation output (succeeds-passed (property-iff .1 p)) .0)),
         );
-        success = λ z. zero-made left right relation output (drawn .relation-bytes) z .1;
+        success = λ z. zero-made left right relation output (given .relation-bytes) z .1;
         written = λ z. subst (DefinedFile left right relation) (sym (certificate-is z)) (file-defined (zero-succeeds z));
         rest-stays = λ z. ap (drop (certificateLength (sizesOf left right))) (output-is z) ∙ back-is;
         judged = λ z. subst (λ (f : List ℕ). judgeAnswer left right f .code ≡ 0) (sym (certificate-is z)) (file-judged (zero-succeeds z));
         untouched = untouched left right relation output;
-        no-other = λ c b r k. accepted-property (viewOf left right relation) (drawn-formed left right relation drawn) (view-plain left right relation) (ranksOf (sizesOf left right) c) (accepted-file left right relation drawn c b r k);
+        no-other = λ c b r k.
+            accepted-property (viewOf left right relation) (given-formed left right relation given) (view-plain left right relation)
+            (ranksOf (sizesOf left right) c)
+            (accepted-file left right relation given c b r k);
       }

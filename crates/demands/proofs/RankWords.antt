@@ -14,7 +14,10 @@ pub match-ranks : (v : View) → WellFormed v → MatchRanks v (matchRank v)
 unfolding matchRank
 match-ranks v w =
     record {
-      some-run = λ j t l k p. let m = matched-iff v w j t .1 p in let q = matched-run v w j t m in (q .0, q .1, q .2 ∙ sym (cond-true (matched v j t) (distance v j t) 0 m));
+      some-run = λ j t l k p.
+          let m = matched-iff v w j t .1 p in
+          let q = matched-run v w j t m in
+          (q .0, q .1, q .2 ∙ sym (cond-true (matched v j t) (distance v j t) 0 m));
       none-fewer = λ j t l k K m. let q = run-matched v w j t K m in let e = cond-true (matched v j t) (distance v j t) 0 (q .0) in omega (arith, e, q .1);
       no-run = λ j t l k n. cond-false (matched v j t) (distance v j t) 0 (λ m. n (matched-iff v w j t .0 m));
     }
@@ -23,7 +26,9 @@ pub stutter-ranks : (v : View) → WellFormed v → T (noneEndless v) → Stutte
 unfolding stutterRank noneEndless
 stutter-ranks v w e =
     record {
-      some-chain = λ s t l k h. let q = chain-some v w t (v .own .states) s h in (q .0, q .1, q .2 ∙ sym (cond-true (v .related s t) (chainLength v t (v .own .states) s) 0 h));
+      some-chain = λ s t l k h.
+          let q = chain-some v w t (v .own .states) s h in
+          (q .0, q .1, q .2 ∙ sym (cond-true (v .related s t) (chainLength v t (v .own .states) s) 0 h));
       none-longer = λ s t l k h J c.
           let b : chainLength v t (v .own .states) s < v .own .states = ltb→lt _ _ (pairs-e v w _ e s t h) in
           let d = cond-true (v .related s t) (chainLength v t (v .own .states) s) 0 h in

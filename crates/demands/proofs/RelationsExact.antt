@@ -27,63 +27,63 @@ use Rattle.files.specs.File.{certificateFile}
 use Rattle.files.proofs.FileLaws.{FitsHeader, file-rows, file-ranks, file-good, file-bytes}
 use Rattle.checker.specs.Judge.{judgeAnswer}
 use Rattle.ranking.specs.Make.{InputsRead}
-use Rattle.demands.specs.Demand2.{AllWellFormed, HasRows, Drawn}
+use Rattle.demands.specs.Demand2.{AllWellFormed, HasRows, WellFormedInputs}
 use Rattle.demands.proofs.AgreeLaws.{AgreeInside, accepts-agree}
 use Rattle.demands.proofs.JudgeExact.{accepts-code, code-accepts}
 
-module _ (left right relation : List ℕ) (drawn : Drawn left right relation) where
+module _ (left right relation : List ℕ) (given : WellFormedInputs left right relation) where
   abbrev z : Sizes
   z = sizesOf left right
 
-  abbrev pub drawnView : View
-  drawnView = viewOf left right relation
+  abbrev pub givenView : View
+  givenView = viewOf left right relation
 
-  pub drawn-formed : WellFormed drawnView
+  pub given-formed : WellFormed givenView
   unfolding sizesOf
-  drawn-formed =
-      view-formed left right relation (formed-good left (drawn .left-formed)) (formed-good right (drawn .right-formed)) (drawn .relation-bytes)
-      (relation-ok z relation (relation-none-good 2 z relation (drawn .relation-formed)) .1 .narrow)
+  given-formed =
+      view-formed left right relation (formed-good left (given .left-formed)) (formed-good right (given .right-formed)) (given .relation-bytes)
+      (relation-ok z relation (relation-none-good 2 z relation (given .relation-formed)) .1 .narrow)
 
-  pub drawn-read : InputsRead left right relation
-  drawn-read =
+  pub given-read : InputsRead left right relation
+  given-read =
       record {
         head = headOf left;
         head′ = headOf right;
         sizes = sizesOf left right;
-        left-good = formed-good left (drawn .left-formed);
-        right-good = formed-good right (drawn .right-formed);
-        relation-good = relation-none-good 2 (sizesOf left right) relation (drawn .relation-formed);
+        left-good = formed-good left (given .left-formed);
+        right-good = formed-good right (given .right-formed);
+        relation-good = relation-none-good 2 (sizesOf left right) relation (given .relation-formed);
       }
 
-  pub drawn-length : length relation ≡ 8 * z .n1
-  drawn-length = relation-ok z relation (relation-none-good 2 z relation (drawn .relation-formed)) .1 .long
+  pub given-length : length relation ≡ 8 * z .n1
+  given-length = relation-ok z relation (relation-none-good 2 z relation (given .relation-formed)) .1 .long
 
-  pub drawn-sizes : FitsHeader z
+  pub given-sizes : FitsHeader z
   unfolding sizesOf
-  drawn-sizes =
-      let a = table-ok left (formed-good left (drawn .left-formed)) in
-      let b = table-ok right (formed-good right (drawn .right-formed)) in
+  given-sizes =
+      let a = table-ok left (formed-good left (given .left-formed)) in
+      let b = table-ok right (formed-good right (given .right-formed)) in
       let n1 = a .states-le in
       let n2 = b .states-le in
       let m1 = a .steps-le in
       let m2 = b .steps-le in
       record { n1< = omega arith; n2< = omega arith; m1< = omega arith; m2< = omega arith }
 
-  pub drawn-few : (drawnView .own .states ≤ 64) × (drawnView .other .states ≤ 64)
+  pub given-few : (givenView .own .states ≤ 64) × (givenView .other .states ≤ 64)
   unfolding viewOf systemOf
-  drawn-few = (table-ok left (formed-good left (drawn .left-formed)) .states-le, table-ok right (formed-good right (drawn .right-formed)) .states-le)
+  given-few = (table-ok left (formed-good left (given .left-formed)) .states-le, table-ok right (formed-good right (given .right-formed)) .states-le)
 
-  -- ---- a file that has the rows gives the drawn view
+  -- ---- a file that has the rows gives the given view
 
   pub rows-are : (c : List ℕ) → AllWellFormed left right c → HasRows left right relation c → rowsPart c z ≡ relation
   unfolding sizesOf
   rows-are c w h =
       let long = certificate-ok z c (certificate-none-good 2 z c (w .certificate-formed)) .1 .long in
       let a = rows-length z c long in
-      ext-getD 0 (rowsPart c z) relation (a ∙ sym drawn-length) (λ i l. let k : i < 8 * z .n1 = rw a at l in rows-byte z c i k ∙ h i k)
+      ext-getD 0 (rowsPart c z) relation (a ∙ sym given-length) (λ i l. let k : i < 8 * z .n1 = rw a at l in rows-byte z c i k ∙ h i k)
 
-  -- an accepted file's ranks are accepted with the drawn view
-  pub accepted-file : (c : List ℕ) → AreBytes c → HasRows left right relation c → judgeAnswer left right c .code ≡ 0 → T (accepts drawnView (ranksOf z c))
+  -- an accepted file's ranks are accepted with the given view
+  pub accepted-file : (c : List ℕ) → AreBytes c → HasRows left right relation c → judgeAnswer left right c .code ≡ 0 → T (accepts givenView (ranksOf z c))
   accepted-file c bytes h e =
       let q = code-accepts left right c bytes e in
       subst (λ (rows : List ℕ). T (accepts (viewOf left right rows) (ranksOf z c))) (rows-are c (q .0) h) (q .1)
@@ -97,35 +97,47 @@ module _ (left right relation : List ℕ) (drawn : Drawn left right relation) wh
     pub file-formed : AllWellFormed left right file
     file-formed =
         record {
-          left-formed = drawn .left-formed;
-          right-formed = drawn .right-formed;
-          certificate-formed = certificate-good-none 2 z file (file-good z relation r drawn-length drawn-sizes (relation-ok z relation (relation-none-good 2 z relation (drawn .relation-formed)) .1 .narrow)) .1;
+          left-formed = given .left-formed;
+          right-formed = given .right-formed;
+          certificate-formed =
+              certificate-good-none 2 z file
+              (file-good z relation r given-length given-sizes
+              (relation-ok z relation (relation-none-good 2 z relation (given .relation-formed)) .1 .narrow)) .1;
         }
 
     pub file-are-bytes : AreBytes file
-    file-are-bytes = file-bytes z relation r drawn-sizes (drawn .relation-bytes) rb
+    file-are-bytes = file-bytes z relation r given-sizes (given .relation-bytes) rb
 
     pub file-has-rows : HasRows left right relation file
     unfolding sizesOf
-    file-has-rows i l = sym (rows-byte z file i l) ∙ ap (λ (rows : List ℕ). byteAt rows i) (file-rows z relation r drawn-length)
+    file-has-rows i l = sym (rows-byte z file i l) ∙ ap (λ (rows : List ℕ). byteAt rows i) (file-rows z relation r given-length)
 
-    inside : AgreeInside drawnView r (ranksOf z file)
+    inside : AgreeInside givenView r (ranksOf z file)
     unfolding viewOf systemOf sizesOf
-    inside = let a = file-ranks z relation r drawn-length in record { stutter = λ s t hs ht. sym (a .stutter s t hs ht); match = λ j t hj ht. sym (a .match j t hj ht) }
+    inside =
+        let a = file-ranks z relation r given-length in
+        record { stutter = λ s t hs ht. sym (a .stutter s t hs ht); match = λ j t hj ht. sym (a .match j t hj ht) }
 
-    inside′ : AgreeInside (flip drawnView) (swap r) (swap (ranksOf z file))
+    inside′ : AgreeInside (flip givenView) (swap r) (swap (ranksOf z file))
     unfolding viewOf systemOf sizesOf
-    inside′ = let a = file-ranks z relation r drawn-length in record { stutter = λ t s ht hs. sym (a .stutter′ t s ht hs); match = λ j s hj hs. sym (a .match′ j s hj hs) }
+    inside′ =
+        let a = file-ranks z relation r given-length in
+        record { stutter = λ t s ht hs. sym (a .stutter′ t s ht hs); match = λ j s hj hs. sym (a .match′ j s hj hs) }
 
-    pub file-accepted : T (accepts drawnView r) → judgeAnswer left right file .code ≡ 0
+    pub file-accepted : T (accepts givenView r) → judgeAnswer left right file .code ≡ 0
     file-accepted h =
         accepts-code left right file file-are-bytes file-formed
-        (subst (λ (rows : List ℕ). T (accepts (viewOf left right rows) (ranksOf z file))) (sym (file-rows z relation r drawn-length)) (accepts-agree drawnView drawn-formed r (ranksOf z file) inside inside′ h))
+        (subst (λ (rows : List ℕ). T (accepts (viewOf left right rows) (ranksOf z file)))
+        (sym (file-rows z relation r given-length))
+        (accepts-agree givenView given-formed r (ranksOf z file) inside inside′ h))
 
   -- some file with the relation's rows is accepted exactly where the relation is a well-founded bisimulation with starts related
-  pub relations-exact : ((c : List ℕ) × AreBytes c × HasRows left right relation c × (judgeAnswer left right c .code ≡ 0)) ↔ (InitialStatesRelated drawnView × SomeRank drawnView)
+  pub relations-exact : ((c : List ℕ) × AreBytes c × HasRows left right relation c × (judgeAnswer left right c .code ≡ 0))
+      ↔ (InitialStatesRelated givenView × SomeRank givenView)
   relations-exact =
-      let b = accepted-iff-bisimulation drawnView drawn-formed (view-plain left right relation) (drawn-few .0) (drawn-few .1) in (
+      let b = accepted-iff-bisimulation givenView given-formed (view-plain left right relation) (given-few .0) (given-few .1) in (
         λ p. b .0 (ranksOf z (p .0), ranks-bytes z (p .0) (p .1), accepted-file (p .0) (p .1) (p .2) (p .3)),
-        λ p. let q = b .1 p in (certificateFile z relation (q .0), file-are-bytes (q .0) (q .1), file-has-rows (q .0) (q .1), file-accepted (q .0) (q .1) (q .2)),
+        λ p.
+            let q = b .1 p in
+            (certificateFile z relation (q .0), file-are-bytes (q .0) (q .1), file-has-rows (q .0) (q .1), file-accepted (q .0) (q .1) (q .2)),
       )

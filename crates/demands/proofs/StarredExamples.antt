@@ -14,8 +14,25 @@ use Rattle.words.specs.Bits.{hasBit, addBit, hasFrom, countBits, firstBit}
 use Rattle.bisimulation.specs.PathProperty.{PathProperty}
 use Rattle.bisimulation.specs.Judge.{is2a, is2b, is2c}
 use Rattle.bisimulation.specs.Triples.{ahead}
-use Rattle.bisimulation.specs.Maker.{matchesWithin, matched, distance, stutters, chainLength, stutterRank, matchRank}
-use Rattle.tables.specs.Table.{magicFits, versionOf, statesOf, startOf, stepsOf, initialOf, tableLength, labelsAt, stepsAt, stepsEnd, labelsPart, stepsPart, labelOf, fromOf, toOf}
+use Rattle.bisimulation.specs.Systems.{stepsFrom}
+use Rattle.bisimulation.specs.Maker.{matchesWithin, matched, distance, mayChain, chainAlong, stutterRank, matchRank}
+use Rattle.tables.specs.Table.{
+  magicFits,
+  versionOf,
+  statesOf,
+  startOf,
+  stepsOf,
+  initialOf,
+  tableLength,
+  labelsAt,
+  stepsAt,
+  stepsEnd,
+  labelsPart,
+  stepsPart,
+  labelOf,
+  fromOf,
+  toOf,
+}
 use Rattle.table_reader.specs.TableReading.{statesFit, endsOutside, sameStep, doubled, readSizes, readHeader, readSteps, readTable}
 use Rattle.tables.specs.Model.{systemOf}
 use Rattle.certificates.specs.Layout.{sizesOf, certificateLength, rowsAt, alAt, arAt, clAt, crAt, rowsPart, rowOf}
@@ -25,14 +42,14 @@ use Rattle.certificates.specs.CertificateModel.{AreBytes, relatedIn, viewOf, ra
 use Rattle.obligations.specs.Obligation.{outcomeOf, isApart, obligationAt}
 use Rattle.answers.specs.Verdicts.{along, firstOf}
 use Rattle.answers.specs.declared.Answer.{Answer}
-use Rattle.obligations.specs.Judging.{stepsFrom, pairChecks, checks, startsVerdict, checkVerdict}
+use Rattle.obligations.specs.Judging.{pairChecks, checksBy, checks, startsVerdict, checkVerdict}
 use Rattle.files.specs.File.{certificateHeader, certificateFile}
-use Rattle.examination.specs.Examine.{examined, makerVerdict, verdictBy, answered, endlessAt, firstChain, endless}
-use Rattle.ranking.specs.Make.{roomVerdict, fileFor, madeVerdict, makeVerdict, makeAnswer, makeOutput}
+use Rattle.examination.specs.Examine.{examined, makerVerdict, verdictBy, mayKeep, endlessAt, firstChain, endless}
+use Rattle.ranking.specs.Make.{readVerdict, roomVerdict, fileFor, madeVerdict, makeVerdict, makeAnswer, makeOutput}
 use Rattle.checker.specs.Judge.{pairsIn, judged, judgedBytes, judgeVerdict, judgeAnswer}
-use Rattle.demands.specs.Demand2.{Drawn}
+use Rattle.demands.specs.Demand2.{WellFormedInputs}
 use Rattle.demands.specs.Examples.{six, P, Q, rowsPQ, K, certificate, low, zeros, still, looping, stillCertificate}
-use Rattle.demands.proofs.MakerAnswers.{made-drawn}
+use Rattle.demands.proofs.MakerAnswers.{made-given}
 use Rattle.demands.proofs.MakerExact.{maker-exact}
 
 pub starred : (judgeAnswer P Q K ≡ six 0 0 3 4 1 1)
@@ -45,9 +62,15 @@ pub starred : (judgeAnswer P Q K ≡ six 0 0 3 4 1 1)
     × (judgeAnswer still still stillCertificate ≡ six 0 0 1 0 0 0)
     × (makeAnswer still looping (low 1) (zeros 24) ≡ six 23 2 1 0 0 0)
 unfolding
-    anyBelow allBelow firstBelow sumBelow countBelow bigEndian hasBit addBit hasFrom countBits firstBit is2a is2b is2c ahead magicFits versionOf statesOf statesFit startOf stepsOf initialOf tableLength labelsAt stepsAt stepsEnd
-    labelsPart stepsPart labelOf fromOf toOf endsOutside sameStep doubled readSizes readHeader readSteps readTable systemOf sizesOf certificateLength rowsAt alAt arAt clAt crAt rowsPart rowOf certificateSizesFit wideRow
-    readRows readCertificate certificates.readHeader relatedIn viewOf ranksOf outcomeOf isApart obligationAt joinBelow stepsFrom pairChecks checks along startsVerdict checkVerdict pairsIn judged judgedBytes judgeVerdict judgeAnswer readRelation roomVerdict examined firstOf makerVerdict verdictBy answered endlessAt firstChain endless matchesWithin matched distance stutters chainLength stutterRank matchRank mostBelow madeVerdict makeVerdict makeAnswer makeOutput fileFor certificateHeader certificateFile bigBytes tabulate grid putFront
+    anyBelow allBelow firstBelow sumBelow countBelow bigEndian hasBit addBit hasFrom countBits firstBit is2a is2b is2c ahead
+    magicFits versionOf statesOf statesFit startOf stepsOf initialOf tableLength labelsAt stepsAt stepsEnd
+    labelsPart stepsPart labelOf fromOf toOf endsOutside sameStep doubled readSizes readHeader readSteps readTable
+    systemOf sizesOf certificateLength rowsAt alAt arAt clAt crAt rowsPart rowOf certificateSizesFit wideRow
+    readRows readCertificate certificates.readHeader relatedIn viewOf ranksOf outcomeOf isApart obligationAt joinBelow stepsFrom pairChecks checksBy checks
+    along startsVerdict checkVerdict pairsIn judged judgedBytes judgeVerdict judgeAnswer
+    readRelation roomVerdict examined firstOf makerVerdict verdictBy mayKeep endlessAt firstChain endless
+    matchesWithin matched distance mayChain chainAlong stutterRank matchRank mostBelow
+    readVerdict madeVerdict makeVerdict makeAnswer makeOutput fileFor certificateHeader certificateFile bigBytes tabulate grid putFront
 starred = (refl, refl, refl, refl, refl, refl, refl, refl, refl)
 
 -- K has 51 bytes, and the maker writes exactly K, into an output of 51 bytes or at the front of a longer one; 50 bytes are too few
@@ -57,9 +80,15 @@ pub made-K : (length K ≡ 51)
     × (makeOutput P Q rowsPQ (zeros 51 ++ (7 ∷ 8 ∷ [])) ≡ K ++ (7 ∷ 8 ∷ []))
     × (makeAnswer P Q rowsPQ (zeros 50) ≡ six 21 3 51 0 0 0)
 unfolding
-    anyBelow allBelow firstBelow sumBelow countBelow bigEndian hasBit addBit hasFrom countBits firstBit is2a is2b is2c ahead magicFits versionOf statesOf statesFit startOf stepsOf initialOf tableLength labelsAt stepsAt stepsEnd
-    labelsPart stepsPart labelOf fromOf toOf endsOutside sameStep doubled readSizes readHeader readSteps readTable systemOf sizesOf certificateLength rowsAt alAt arAt clAt crAt rowsPart rowOf certificateSizesFit wideRow
-    readRows readCertificate certificates.readHeader relatedIn viewOf ranksOf outcomeOf isApart obligationAt joinBelow stepsFrom pairChecks checks along startsVerdict checkVerdict pairsIn judged judgedBytes judgeVerdict judgeAnswer readRelation roomVerdict examined firstOf makerVerdict verdictBy answered endlessAt firstChain endless matchesWithin matched distance stutters chainLength stutterRank matchRank mostBelow madeVerdict makeVerdict makeAnswer makeOutput fileFor certificateHeader certificateFile bigBytes tabulate grid putFront
+    anyBelow allBelow firstBelow sumBelow countBelow bigEndian hasBit addBit hasFrom countBits firstBit is2a is2b is2c ahead
+    magicFits versionOf statesOf statesFit startOf stepsOf initialOf tableLength labelsAt stepsAt stepsEnd
+    labelsPart stepsPart labelOf fromOf toOf endsOutside sameStep doubled readSizes readHeader readSteps readTable
+    systemOf sizesOf certificateLength rowsAt alAt arAt clAt crAt rowsPart rowOf certificateSizesFit wideRow
+    readRows readCertificate certificates.readHeader relatedIn viewOf ranksOf outcomeOf isApart obligationAt joinBelow stepsFrom pairChecks checksBy checks
+    along startsVerdict checkVerdict pairsIn judged judgedBytes judgeVerdict judgeAnswer
+    readRelation roomVerdict examined firstOf makerVerdict verdictBy mayKeep endlessAt firstChain endless
+    matchesWithin matched distance mayChain chainAlong stutterRank matchRank mostBelow
+    readVerdict madeVerdict makeVerdict makeAnswer makeOutput fileFor certificateHeader certificateFile bigBytes tabulate grid putFront
 made-K = (refl, refl, refl, refl, refl)
 
 -- P and Q with the rows 3 and 4 are well formed, and the relation has the path property: no hypothesis of the demands is empty
@@ -74,8 +103,8 @@ bytes-PQ i = elim (decLt i 16) [
 success-PQ : makeAnswer P Q rowsPQ (zeros 51) .code ≡ 0
 success-PQ = ap (λ (a : Answer). a .code) (made-K .1)
 
-pub drawn-PQ : Drawn P Q rowsPQ
-drawn-PQ = made-drawn P Q rowsPQ (zeros 51) bytes-PQ success-PQ .0
+pub given-PQ : WellFormedInputs P Q rowsPQ
+given-PQ = made-given P Q rowsPQ (zeros 51) bytes-PQ success-PQ .0
 
 pub property-PQ : PathProperty (viewOf P Q rowsPQ)
-property-PQ = maker-exact P Q rowsPQ (zeros 51) drawn-PQ (made-drawn P Q rowsPQ (zeros 51) bytes-PQ success-PQ .1) .succeeds .0 success-PQ
+property-PQ = maker-exact P Q rowsPQ (zeros 51) given-PQ (made-given P Q rowsPQ (zeros 51) bytes-PQ success-PQ .1) .succeeds .0 success-PQ

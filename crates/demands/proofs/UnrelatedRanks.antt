@@ -31,7 +31,7 @@ use Rattle.certificate_reader.specs.declared.CertificateRead.{CertificateRead}
 use Rattle.certificate_reader.specs.declared.CertificateRead.the-variants as certificate
 use Rattle.certificates.proofs.ModelLaws.{rows-length, rows-byte}
 use Rattle.certificate_reader.proofs.CertificateLaws.{certificate-ok}
-use Rattle.checker.specs.Progress.{none, tallied, acceptance}
+use Rattle.checker.specs.Tallies.{none, tallied, acceptance}
 use Rattle.checker.specs.Judge.{pairsIn, judged, judgedBytes, judgeVerdict, answerAfter, judgeAnswer}
 use Rattle.checker.specs.declared.Tally.{Tally}
 use Rattle.table_reader.specs.TableAnswers.{tableVerdict}
@@ -54,13 +54,17 @@ and-same false h = refl
 module _ (v : View) (r r′ : Ranks) (same : SameRanks v r r′) (j t : ℕ) (rel : T (v .related (v .own .from j) t)) where
   same-2b : is2b v r j t ≡ is2b v r′ j t
   unfolding is2b
-  same-2b = and-same (v .own .silent j && v .related (v .own .to j) t) (λ h. ap₂ ltb (same .stutter (v .own .to j) t (and-r (v .own .silent j) _ h)) (same .stutter (v .own .from j) t rel))
+  same-2b =
+      and-same (v .own .silent j && v .related (v .own .to j) t)
+      (λ h. ap₂ ltb (same .stutter (v .own .to j) t (and-r (v .own .silent j) _ h)) (same .stutter (v .own .from j) t rel))
 
   same-2c : is2c v r j t ≡ is2c v r′ j t
   unfolding is2c
   same-2c =
       any-cong (v .other .steps) (meets2c v r j t) (meets2c v r′ j t) λ k l.
-      and-same (eqb (v .other .from k) t && v .other .silent k && v .related (v .own .from j) (v .other .to k)) (λ h. ap₂ ltb (same .match j (v .other .to k) (and-r (eqb (v .other .from k) t && v .other .silent k) _ h)) (same .match j t rel))
+      and-same (eqb (v .other .from k) t && v .other .silent k && v .related (v .own .from j) (v .other .to k))
+      (λ h. ap₂ ltb (same .match j (v .other .to k) (and-r (eqb (v .other .from k) t && v .other .silent k) _ h))
+      (same .match j t rel))
 
   same-obligation : obligationAt v r j t ≡ obligationAt v r′ j t
   unfolding obligationAt
@@ -83,7 +87,9 @@ module _ (v : View) (r r′ : Ranks) where
   judged-same-ranks : SameRanks v r r′ → SameRanks (flip v) (swap r) (swap r′) → (start start′ : ℕ) → judged v r start start′ ≡ judged v r′ start start′
   unfolding judged
   judged-same-ranks a b start start′ =
-      then-cong (startsVerdict v start start′) (λ x. along-cong (λ c. tallied (checkVerdict v r c)) (λ c. tallied (checkVerdict v r′ c)) (checks v) (all-imply (checks v) (checks-same a b)) none)
+      then-cong (startsVerdict v start start′)
+      (λ x. along-cong (λ c. tallied (checkVerdict v r c)) (λ c. tallied (checkVerdict v r′ c))
+      (checks v) (all-imply (checks v) (checks-same a b)) none)
     where
       all-imply : (cs : List Check) → All Same cs → All (λ c. (y : Tally) → tallied (checkVerdict v r c) y ≡ tallied (checkVerdict v r′ c) y) cs
       all-imply [] h = tt
@@ -121,20 +127,26 @@ module _ (left right c c′ : List ℕ) (d : SameWhereRelated left right c c′)
   rows-same e =
       let a = rows-length z c e in
       let b = rows-length z c′ (sym (d .long) ∙ e) in
-      ext-getD 0 (rowsPart c z) (rowsPart c′ z) (a ∙ sym b) (λ i l. let k : i < 8 * z .n1 = rw a at l in rows-byte z c i k ∙ d .head (rowsAt z + i) (omega arith) ∙ sym (rows-byte z c′ i k))
+      ext-getD 0 (rowsPart c z) (rowsPart c′ z) (a ∙ sym b)
+      (λ i l. let k : i < 8 * z .n1 = rw a at l in
+      rows-byte z c i k ∙ d .head (rowsAt z + i) (omega arith) ∙ sym (rows-byte z c′ i k))
 
   -- a good header has the sizes and the length
   good-header : {y : Sizes} → readHeader z c ≡ certificate.Good y → (y ≡ z) × (length c ≡ certificateLength z)
   unfolding readHeader
   good-header {y} e =
-      let q = last (ltb (length c) 11) (not (magicFits 0x43 c)) (not (eqb (bigEndian c 3 2) 1)) (not (certificateSizesFit z c)) (not (eqb (length c) (certificateLength z))) e in
+      let q = last (ltb (length c) 11) (not (magicFits 0x43 c))
+      (not (eqb (bigEndian c 3 2) 1)) (not (certificateSizesFit z c)) (not (eqb (length c) (certificateLength z))) e in
       (q .0, eqb-true _ _ (not-false _ (q .1)))
     where
       no : {r : CertificateRefusal} {s : Sizes} → _≡_ {A = CertificateRead} (certificate.Refused r) (certificate.Good s) → ⊥
       no q = let z : _≡_ {A = ℕ} 0 1 = cc q in omega arith
 
       last : (a b d f g : Bool)
-          → cond a (certificate.Refused refused.Short) (cond b (certificate.Refused refused.Magic) (cond d (certificate.Refused refused.Version) (cond f (certificate.Refused refused.Sizes) (cond g (certificate.Refused refused.Length) (certificate.Good z))))) ≡ certificate.Good y
+          → cond a (certificate.Refused refused.Short) (cond b (certificate.Refused refused.Magic)
+          (cond d (certificate.Refused refused.Version) (cond f (certificate.Refused refused.Sizes)
+          (cond g (certificate.Refused refused.Length) (certificate.Good z)))))
+          ≡ certificate.Good y
           → (y ≡ z) × (g ≡ false)
       last true b d f g e = absurd (no e)
       last false true d f g e = absurd (no e)
@@ -149,7 +161,9 @@ module _ (left right c c′ : List ℕ) (d : SameWhereRelated left right c c′)
     where
       go : (x : CertificateRead) → readHeader z c ≡ x → withRows c (readHeader z c) ≡ withRows c′ (readHeader z c′)
       go (certificate.Refused r) e = rw (← header-same, e)
-      go (certificate.Good y) e = let q = good-header e in rw (← header-same, e) (ap (readRows y) (subst (λ (x : Sizes). rowsPart c x ≡ rowsPart c′ x) (sym (q .0)) (rows-same (q .1))))
+      go (certificate.Good y) e =
+          let q = good-header e in
+          rw (← header-same, e) (ap (readRows y) (subst (λ (x : Sizes). rowsPart c x ≡ rowsPart c′ x) (sym (q .0)) (rows-same (q .1))))
 
   -- the ranks are the same where related
   ranks-same : SameRanks (view left right c) (ranks left right c) (ranks left right c′)
@@ -161,7 +175,8 @@ module _ (left right c c′ : List ℕ) (d : SameWhereRelated left right c c′)
   ranks-same′ = record { stutter = λ t s h. d .ar s t h; match = λ j s h. d .cr j s h }
 
   -- where the certificate is read, the verdict and the pairs are the same
-  judged-same : length c ≡ certificateLength z → judgedBytes left right c (startOf left) (startOf right) ≡ judgedBytes left right c′ (startOf left) (startOf right)
+  judged-same : length c ≡ certificateLength z
+      → judgedBytes left right c (startOf left) (startOf right) ≡ judgedBytes left right c′ (startOf left) (startOf right)
   unfolding judgedBytes
   judged-same e =
       judged-same-ranks (view left right c) (ranks left right c) (ranks left right c′) ranks-same ranks-same′ (startOf left) (startOf right)
@@ -180,10 +195,13 @@ module _ (left right c c′ : List ℕ) (d : SameWhereRelated left right c c′)
   unfolding judgeAnswer judgeVerdict
   unrelated-ranks = go (readTable left) (readTable right) (readCertificate z c) refl
     where
-      go : (x y : TableRead) (k : CertificateRead) → readCertificate z c ≡ k → answerAfter left right c (verdictOn c x y) ≡ answerAfter left right c′ (verdictOn c′ x y)
+      go : (x y : TableRead) (k : CertificateRead) → readCertificate z c ≡ k
+          → answerAfter left right c (verdictOn c x y) ≡ answerAfter left right c′ (verdictOn c′ x y)
       go (table.Refused r) y k e = refl
       go (table.Good h) (table.Refused r) k e = refl
       go (table.Good h) (table.Good i) (certificate.Refused r) e = rw (← read-same, e)
       go (table.Good h) (table.Good i) (certificate.Good s) e =
           let l = certificate-ok z c e .1 .long in
-          rw (← read-same, e, judged-same l) (ap (λ (rows : List ℕ). answerOf (acceptance (pairsIn rows (statesOf left))) (judgedBytes left right c′ (startOf left) (startOf right))) (rows-same l))
+          rw (← read-same, e, judged-same l)
+          (ap (λ (rows : List ℕ). answerOf (acceptance (pairsIn rows (statesOf left))) (judgedBytes left right c′ (startOf left) (startOf right)))
+          (rows-same l))

@@ -38,18 +38,20 @@ pub record JudgeExact (left right c : List ℕ) (answer : Answer) : Type 0 where
   -- The counts are those of the related pairs and of the obligations by the clause that meets them.
   pub counted : answer .code ≡ 0 → Accepted left right c answer
   -- A certificate whose ranks, as one rank of triples, make the relation the paper's well-founded bisimulation, clause by clause, is accepted.
-  pub literal-accepted : AllWellFormed left right c → InitialStatesRelated (view left right c) → Bisimulation (view left right c) _<_ (tripleRank (view left right c) (ranks left right c))
+  pub literal-accepted : AllWellFormed left right c
+      → InitialStatesRelated (view left right c) → Bisimulation (view left right c) _<_ (tripleRank (view left right c) (ranks left right c))
       → answer .code ≡ 0
   -- The ranks of an accepted certificate do so once the A ranks are raised.
   pub accepted-raised : answer .code ≡ 0
-      → InitialStatesRelated (view left right c) × Bisimulation (view left right c) _<_ (tripleRank (view left right c) (raised (view left right c) (ranks left right c)))
+      → InitialStatesRelated (view left right c)
+      × Bisimulation (view left right c) _<_ (tripleRank (view left right c) (raised (view left right c) (ranks left right c)))
 
 -- The file has the relation's rows, whatever its other bytes.
 abbrev pub HasRows : (left right relation c : List ℕ) → Type 0
 HasRows left right relation c = (i : ℕ) → i < 8 * statesOf left → byteAt c (rowsAt (sizesOf left right) + i) ≡ byteAt relation i
 
 -- The two tables and the relation are well formed.
-pub record Drawn (left right relation : List ℕ) : Type 0 where
+pub record WellFormedInputs (left right relation : List ℕ) : Type 0 where
   pub left-formed : WellFormedTable left
   pub right-formed : WellFormedTable right
   pub relation-formed : NoCause (relationCauses 2 (sizesOf left right) relation)
@@ -59,8 +61,10 @@ pub record Drawn (left right relation : List ℕ) : Type 0 where
 pub record SameWhereRelated (left right c c′ : List ℕ) : Type 0 where
   pub long : length c ≡ length c′
   pub head : (i : ℕ) → i < alAt (sizesOf left right) → byteAt c i ≡ byteAt c′ i
-  pub al : (s t : ℕ) → T (view left right c .related s t) → byteAt c (alAt (sizesOf left right) + (s * statesOf right + t)) ≡ byteAt c′ (alAt (sizesOf left right) + (s * statesOf right + t))
-  pub ar : (s t : ℕ) → T (view left right c .related s t) → byteAt c (arAt (sizesOf left right) + (t * statesOf left + s)) ≡ byteAt c′ (arAt (sizesOf left right) + (t * statesOf left + s))
+  pub al : (s t : ℕ) → T (view left right c .related s t)
+      → byteAt c (alAt (sizesOf left right) + (s * statesOf right + t)) ≡ byteAt c′ (alAt (sizesOf left right) + (s * statesOf right + t))
+  pub ar : (s t : ℕ) → T (view left right c .related s t)
+      → byteAt c (arAt (sizesOf left right) + (t * statesOf left + s)) ≡ byteAt c′ (arAt (sizesOf left right) + (t * statesOf left + s))
   pub cl : (j t : ℕ) → T (view left right c .related (view left right c .own .from j) t)
       → byteAt c (clAt (sizesOf left right) + (j * statesOf right + t)) ≡ byteAt c′ (clAt (sizesOf left right) + (j * statesOf right + t))
   pub cr : (j s : ℕ) → T (view left right c .related s (view left right c .other .from j))

@@ -39,5 +39,6 @@ pub record MakerExact (left right relation output : List ℕ) (answer : Answer) 
   pub judged : answer .code ≡ 0 → judgeAnswer left right (take (certificateLength (sizesOf left right)) after) .code ≡ 0
   -- Otherwise the output is as it was.
   pub untouched : ¬ (answer .code ≡ 0) → after ≡ output
-  -- A relation without the path property has no accepted certificate at all: whatever file has its rows, if the judge accepts it, the relation has the property.
+  -- A relation without the path property has no accepted certificate at all: whatever file has its rows, if the judge accepts it,
+  -- the relation has the property.
   pub no-other : (c : List ℕ) → AreBytes c → HasRows left right relation c → judgeAnswer left right c .code ≡ 0 → PathProperty (viewOf left right relation)

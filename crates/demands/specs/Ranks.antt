@@ -1,4 +1,5 @@
--- The ranks of the maker's file in the words of document 01, for a side: a matching run is the list of a matched duty, a stuttering chain one of unmatched steps.
+-- The ranks of the maker's file in the words of document 01, for a side: a matching run is the list of a matched duty,
+-- a stuttering chain one of unmatched steps.
 use Prim.Native.Nat.{ℕ, _≤_, _<_}
 use mathlib.Core.Path.{_≡_}
 use mathlib.Core.List.{List}

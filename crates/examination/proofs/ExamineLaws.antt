@@ -10,7 +10,7 @@ use native.Mathlib.Decide.{decLt}
 use lib.Dec.{T, ltb, leb, eqb, ltb→lt, lt→ltb, leb→le, le→leb}
 use Rattle.lists.proofs.BoolLaws.{and-l, and-r, and-i}
 use Rattle.lists.proofs.JoinLaws.{all-flat, flat-all, all-join, join-all}
-use Rattle.bisimulation.specs.Systems.{View, WellFormed, flip}
+use Rattle.bisimulation.specs.Systems.{View, WellFormed, flip, Stays}
 use Rattle.bisimulation.specs.Judge.{labelsEqual, initialRelated}
 use Rattle.bisimulation.specs.Runs.{Matched}
 use Rattle.bisimulation.specs.Maker.{matched, chainLength, noneUnmatched, noneEndless, succeeds}
@@ -21,34 +21,38 @@ use Rattle.answers.specs.Causes.{Cause, NoCause, Numbered, Allows}
 use Rattle.answers.specs.Verdicts.{refusedWith, passed, firstIn}
 use Rattle.answers.proofs.CauseLaws.{none-append, append-none, numbered-append, numbered-below, numbered-flat}
 use Rattle.answers.proofs.DecideLaws.{Decides, decides-as, decides-stable, test-decides, eqb-decides, not-decides, and-decides, or-decides}
-use Rattle.answers.proofs.VerdictLaws.{Decided, Anything, decided-none, decided-test, decided-unless, decided-then, decided-along, decided-below, none-on, on-none}
+use Rattle.answers.proofs.VerdictLaws.{Decided, Anything, decided-none, decided-test, decided-unless, decided-then, decided-along, decided-below}
+use Rattle.answers.proofs.VerdictLaws.{none-on, on-none}
 use Rattle.obligations.specs.CheckAnswers.{labelsAnswer, stepAnswer, chainAnswer}
-use Rattle.obligations.specs.CheckCauses.{startsCauses, Stays}
+use Rattle.obligations.specs.CheckCauses.{startsCauses}
 use Rattle.obligations.specs.Judging.{Check, labelsOf, leftStep, rightStep, checks, startsVerdict}
 use Rattle.obligations.proofs.JudgingLaws.{checks-all, all-checks, starts-decided}
-use Rattle.examination.specs.Examine.{answered, verdictBy, makerVerdict, endlessAt, firstChain, endless, examined}
+use Rattle.examination.specs.Examine.{mayKeep, verdictBy, makerVerdict, endlessAt, firstChain, endless, examined}
 use Rattle.examination.specs.ExaminationCauses.{makerCheckCauses, LongChain, chainCauses, examinationCauses}
 
 -- ---- 17 and 22
 
 module _ (v : View) (w : WellFormed v) (j t : ℕ) where
-  kept-decides : Decides (answered v j t) (Matched v j t ⊎ Stays v j t)
-  unfolding answered
+  kept-decides : Decides (mayKeep v j t) (Matched v j t ⊎ Stays v j t)
+  unfolding mayKeep
   kept-decides =
       let m : Decides (matched v j t) (Matched v j t) = record { sound = matched-iff v w j t .0; complete = matched-iff v w j t .1 } in
       or-decides m
       (and-decides (test-decides (v .own .silent j)) (test-decides (v .related (v .own .to j) t)))
 
-  lost-decides : Decides (not (answered v j t)) ((¬ Matched v j t) × (¬ Stays v j t))
-  lost-decides = decides-as (not-decides kept-decides) (λ n. (λ p. n (inl p), λ p. n (inr p))) (λ p. ⊎-elim (p .0) (p .1))
+  unkept-decides : Decides (not (mayKeep v j t)) ((¬ Matched v j t) × (¬ Stays v j t))
+  unkept-decides = decides-as (not-decides kept-decides) (λ n. (λ p. n (inl p), λ p. n (inr p))) (λ p. ⊎-elim (p .0) (p .1))
 
 check-decided : (v : View) → WellFormed v → (c : Check) → Decided Anything (makerCheckCauses v c) (makerVerdict v c)
 unfolding makerVerdict verdictBy
 check-decided v w (labelsOf s t) =
-    decided-unless (λ x. x) (eqb (v .own .label s) (v .other .label t)) (refusedWith (labelsAnswer s t)) passed (not-decides (eqb-decides (v .own .label s) (v .other .label t))) refl (decided-none tt)
-check-decided v w (leftStep s t j) = decided-unless (λ x. x) (answered v j t) (refusedWith (stepAnswer 22 0 s t j)) passed (lost-decides v w j t) refl (decided-none tt)
+    decided-unless (λ x. x) (eqb (v .own .label s) (v .other .label t)) (refusedWith (labelsAnswer s t)) passed
+    (not-decides (eqb-decides (v .own .label s) (v .other .label t))) refl (decided-none tt)
+check-decided v w (leftStep s t j) = decided-unless (λ x. x) (mayKeep v j t) (refusedWith (stepAnswer 22 0 s t j)) passed
+    (unkept-decides v w j t) refl (decided-none tt)
 check-decided v w (rightStep s t j) =
-    decided-unless (λ x. x) (answered (flip v) j s) (refusedWith (stepAnswer 22 1 s t j)) passed (lost-decides (flip v) (flip-formed v w) j s) refl (decided-none tt)
+    decided-unless (λ x. x) (mayKeep (flip v) j s) (refusedWith (stepAnswer 22 1 s t j)) passed
+    (unkept-decides (flip v) (flip-formed v w) j s) refl (decided-none tt)
 
 -- ---- 23
 
@@ -81,7 +85,8 @@ pub examined-decided : (v : View) → WellFormed v → (start start′ : ℕ) �
 unfolding examined
 examined-decided v w start start′ =
     decided-then (startsVerdict v start start′) (starts-decided v start start′) λ x g n.
-    decided-then (firstIn (makerVerdict v) (checks v)) (decided-along (makerCheckCauses v) (λ c x. makerVerdict v c) (λ c x. check-decided v w c) (checks v) tt) λ y h m.
+    decided-then (firstIn (makerVerdict v) (checks v))
+    (decided-along (makerCheckCauses v) (λ c x. makerVerdict v c) (λ c x. check-decided v w c) (checks v) tt) λ y h m.
     decided-then (endless v 0) (endless-decided v w 0) λ z k l.
     endless-decided (flip v) (flip-formed v w) 1
 
@@ -92,18 +97,20 @@ Kept v j t = ¬ ((¬ Matched v j t) × (¬ Stays v j t))
 
 module _ (v : View) (w : WellFormed v) where
   kept-unmatched : ((s t : ℕ) → T (v .related s t) → (j : ℕ) → j < v .own .steps → v .own .from j ≡ s → Kept v j t) → T (noneUnmatched v)
-  unfolding noneUnmatched answered
-  kept-unmatched h = pairs-i v _ λ s t r. steps-i v s _ λ j l e. kept-decides v w j t .complete (decides-stable (kept-decides v w j t) (λ n. h s t r j l e (λ p. n (inl p), λ p. n (inr p))))
+  unfolding noneUnmatched mayKeep
+  kept-unmatched h = pairs-i v _ λ s t r. steps-i v s _ λ j l e. kept-decides v w j t .complete
+      (decides-stable (kept-decides v w j t) (λ n. h s t r j l e (λ p. n (inl p), λ p. n (inr p))))
 
   unmatched-kept : T (noneUnmatched v) → (s t : ℕ) → T (v .related s t) → (j : ℕ) → j < v .own .steps → v .own .from j ≡ s → Kept v j t
-  unfolding noneUnmatched answered
+  unfolding noneUnmatched mayKeep
   unmatched-kept h s t r j l e n = ⊎-elim (n .0) (n .1) (kept-decides v w j t .sound (steps-e v s _ (pairs-e v w _ h s t r) j l e))
 
   chains-endless : (side : ℕ) → NoCause (chainCauses v side) → T (noneEndless v)
   unfolding noneEndless endlessAt
   chains-endless side n = pairs-i v _ λ c b h. elim (decLt (chainLength v b (v .own .states) c) (v .own .states)) [
     | yes l ↦ lt→ltb _ _ l
-    | no l ↦ absurd (join-all (λ x. ¬ x .condition) (v .own .states) _ (join-all (λ x. ¬ x .condition) (v .other .states) _ n b (w .there .related< b c h)) c (w .here .related< c b h) .0
+    | no l ↦ absurd (join-all (λ x. ¬ x .condition) (v .own .states) _ (join-all (λ x. ¬ x .condition) (v .other .states) _ n b (w .there .related< b c h))
+        c (w .here .related< c b h) .0
         (chain-decides v w b c .sound (and-i (v .related c b) _ h (le→leb (v .own .states) (chainLength v b (v .own .states) c) (omega arith)))))
   ]
 
@@ -113,7 +120,8 @@ module _ (v : View) (w : WellFormed v) where
     λ p.
         let h = chain-decides v w b c .complete p in
         let l = leb→le (v .own .states) (chainLength v b (v .own .states) c) (and-r (v .related c b) _ h) in
-        let k = ltb→lt (chainLength v b (v .own .states) c) (v .own .states) (pairs-e v w (λ s t. ltb (chainLength v t (v .own .states) s) (v .own .states)) n c b (p .1 .related .0)) in
+        let k = ltb→lt (chainLength v b (v .own .states) c) (v .own .states)
+        (pairs-e v w (λ s t. ltb (chainLength v t (v .own .states) s) (v .own .states)) n c b (p .1 .related .0)) in
         omega arith,
     tt,
   )
@@ -131,7 +139,8 @@ seven-i a b c d e f g p q r s t u x = search (and-i)
 seven-e : (a b c d e f g : Bool) → T (a && b && c && (d && e) && (f && g)) → T a × T b × T c × T d × T e × T f × T g
 seven-e a b c d e f g h = search (and-l, and-r)
 
-module _ (v : View) (w : WellFormed v) (start start′ : ℕ) (f : (s : ℕ) → v .own .initial s ≡ eqb s start) (g : (t : ℕ) → v .other .initial t ≡ eqb t start′) where
+module _ (v : View) (w : WellFormed v) (start start′ : ℕ) (f : (s : ℕ) → v .own .initial s ≡ eqb s start)
+    (g : (t : ℕ) → v .other .initial t ≡ eqb t start′) where
   abbrev None : Check → Type 0
   None c = NoCause (makerCheckCauses v c)
 
@@ -152,7 +161,8 @@ module _ (v : View) (w : WellFormed v) (start start′ : ℕ) (f : (s : ℕ) →
   succeeds-none : T (succeeds v) → NoCause (examinationCauses v start start′)
   unfolding succeeds
   succeeds-none h =
-      let p = seven-e (initialRelated v) (initialRelated (flip v)) (labelsEqual v) (noneUnmatched v) (noneUnmatched (flip v)) (noneEndless v) (noneEndless (flip v)) h in
+      let p = seven-e (initialRelated v) (initialRelated (flip v)) (labelsEqual v) (noneUnmatched v) (noneUnmatched (flip v)) (noneEndless v)
+      (noneEndless (flip v)) h in
       let r = one-initial v start start′ f g .0 (initial-e v w (p .0), initial-e (flip v) (flip-formed v w) (p .1)) in
       none-append (startsCauses v start start′) (afterStarts v) (λ n. n r, tt)
       (none-append (flatMap (makerCheckCauses v) (checks v)) (afterChecks v)

@@ -1,8 +1,9 @@
 -- Laws of the maker's examination.
-pub mod VerdictLaws
-pub mod WalkLaws
-pub mod TestLaws
+pub mod CheckedLaws
+pub mod KeptLaws
+pub mod StepLaws
+pub mod WordLaws
+pub mod ChainLaws
 pub mod PairLaws
-pub mod RowLaws
 pub mod ExamineLaws
-pub mod BytesLaws
+pub mod MeasuredLaws

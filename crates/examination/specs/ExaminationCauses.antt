@@ -4,11 +4,11 @@ use mathlib.Core.Path.{_≡_}
 use mathlib.Core.List.{List, [], _∷_, _++_, flatMap}
 use lib.ListN.{length}
 use Rattle.lists.specs.Lists.{joinBelow}
-use Rattle.bisimulation.specs.Systems.{View, flip}
+use Rattle.bisimulation.specs.Systems.{View, flip, Stays}
 use Rattle.bisimulation.specs.Runs.{Matched, StutteringChain}
 use Rattle.answers.specs.Causes.{Cause, _gives_}
 use Rattle.obligations.specs.CheckAnswers.{stepAnswer, chainAnswer}
-use Rattle.obligations.specs.CheckCauses.{startsCauses, labelCauses, Stays}
+use Rattle.obligations.specs.CheckCauses.{startsCauses, labelCauses}
 use Rattle.obligations.specs.Judging.{Check, labelsOf, leftStep, rightStep, checks}
 
 -- 22: an unmatched obligation with u, t unrelated.

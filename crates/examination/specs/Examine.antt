@@ -3,7 +3,7 @@
 use Prim.Native.Nat.{ℕ}
 use mathlib.Core.Bool.{Bool, cond, _&&_, _||_}
 use lib.Dec.{leb, eqb}
-use Rattle.bisimulation.specs.Systems.{View, flip}
+use Rattle.bisimulation.specs.Systems.{View, flip, stays}
 use Rattle.bisimulation.specs.Maker.{matched, chainLength}
 use Rattle.answers.specs.Verdicts.{Verdict, refusedWith, _andThen_, passed, passIf, firstOf, firstIn}
 use Rattle.obligations.specs.CheckAnswers.{labelsAnswer, stepAnswer, chainAnswer}
@@ -11,9 +11,9 @@ use Rattle.obligations.specs.Judging.{Check, labelsOf, leftStep, rightStep, che
 
 -- ---- 17 and 22
 
--- The own step j may be kept at t: it is matched, or it is silent and enters a state related to t.
-unfoldable pub answered : View → ℕ → ℕ → Bool
-answered v j t = matched v j t || v .own .silent j && v .related (v .own .to j) t
+-- The own step j may be kept at t: it is matched there, or it stays.
+unfoldable pub mayKeep : View → ℕ → ℕ → Bool
+mayKeep v j t = matched v j t || stays v j t
 
 -- The verdict on a check, by a test of the left steps at a right state and a test of the right steps at a left state.
 unfoldable pub verdictBy : View → (ℕ → ℕ → Bool) → (ℕ → ℕ → Bool) → Check → Verdict (Unit {0})
@@ -23,7 +23,7 @@ verdictBy v left right (rightStep s t j) = passIf (right j s) (stepAnswer 22 1 s
 
 -- The maker's verdict on a check.
 unfoldable pub makerVerdict : View → Check → Verdict (Unit {0})
-makerVerdict v = verdictBy v (answered v) (answered (flip v))
+makerVerdict v = verdictBy v (mayKeep v) (mayKeep (flip v))
 
 -- ---- 23
 

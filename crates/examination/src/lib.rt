@@ -1,95 +1,74 @@
-// The maker's examination of a relation: the starts, the pairs with their labels and steps, and the chains.
+// The maker's examination of a relation: the starts, the pairs with their labels and steps, and the chains. It reads two sides and the tables of their
+// lengths, and writes nothing.
 use answers::Answer;
 use lists::byte;
-use relations::word;
-use tables::from;
-use tables::label;
-use tables::labels;
-use tables::states;
-use tables::step_count;
-use tables::steps;
-use tables::to;
+use obligations::Checked;
+use obligations::Place;
+use obligations::check_starts;
+use sides::Side;
+use sides::first;
+use sides::label;
+use sides::next;
+use sides::related;
+use sides::states;
+use sides::to;
+use tables::Head;
 ghost use mathlib.Core.Path.{_≡_};
-ghost use Prim.Native.Nat.{_<_, min};
+ghost use Prim.Native.Nat.{_<_};
 ghost use Rattle.lists.specs.Below.{firstBelow};
-ghost use Rattle.tables.specs.Table.{statesOf, stepsPart};
-ghost use Rattle.examination.specs.Examine.{firstChain};
-ghost use Rattle.examination.specs.Walk.{asExamined, wordsView, answeredBy, unansweredBy, longBy, pairVerdict, rowVerdict, pairsVerdict, examinedBy};
+ghost use Rattle.answers.specs.Verdicts.{firstIn};
+ghost use Rattle.sides.specs.Side.{systemIn, stepsIn};
+ghost use Rattle.sides.specs.Views.{viewIn};
+ghost use Rattle.obligations.specs.OnSides.{asChecked, checksIn};
+ghost use Rattle.examination.specs.OnSides.{keptBy, longBy, verdictIn, chainsIn, examinedIn};
+ghost use Rattle.examination.specs.Walk.{stepVerdictIn, pairIn, rowIn};
 
-// Whether nothing is found, or the maker stops with an answer.
-pub enum Examined {
-    Passed,
-    Stopped(Answer),
-}
-
-// The starts of the two tables.
-pub struct Starts {
-    pub left: usize,
-    pub right: usize,
-}
-
-// Whether step j of the list leaves s and may not be kept at t. The other side has n states.
-fn is_unanswered(
-    list: &[u8],
-    words: &[u64],
-    distances: &[u8],
-    n: usize,
-    s: usize,
-    t: usize,
-    j: usize,
-) -> bool
-    requires { ⌜ (j < 65536) × (t < 256) ⌝ }
-    ensures { λ r. ⌜ r ≡ unansweredBy (now (list .entry)) (now (words .entry)) (now (distances .entry)) n s t j ⌝ }
+// Whether our step j may be kept at t: it is matched there by the table of distances, or it stays.
+fn is_kept(ours: &Side, theirs: &Side, distances: &[u8], j: usize, t: usize) -> bool
+    requires { ⌜ (j < 256) × (t < 64) ⌝ }
+    ensures { λ r. ⌜ r ≡ keptBy (viewIn (now (ours .entry)) (now (theirs .entry))) (now (distances .entry)) j t ⌝ }
 {
-    if from(list, j) != s {
-        return false;
+    if byte(distances, j * Head::MAX_STATES + t) < states(theirs) {
+        return true;
     }
-    if byte(distances, j * 64 + t) < n {
-        return false;
-    }
-    let entered = word(words, to(list, j));
-    !entered.has(t)
+    let to_states = related(ours, to(ours, j));
+    to_states.has(t)
 }
 
-// The first of the m steps that leaves s and may not be kept at t, and m where there is none.
-fn first_unanswered(
-    list: &[u8],
-    m: usize,
-    words: &[u64],
-    distances: &[u8],
-    n: usize,
-    s: usize,
-    t: usize,
-) -> usize
-    requires { ⌜ (m < 65536) × (t < 256) ⌝ }
-    ensures { λ r. ⌜ r ≡ firstBelow m (unansweredBy (now (list .entry)) (now (words .entry)) (now (distances .entry)) n s t) ⌝ }
+// Our steps from the place's own state, in the order of their links.
+fn check_steps(ours: &Side, theirs: &Side, distances: &[u8], place: Place) -> Checked
+    requires { ⌜ place .other < 64 ⌝ }
+    ensures { λ r. ⌜ r ≡ asChecked (firstIn (stepVerdictIn (now (ours .entry)) (now (theirs .entry)) (now (distances .entry)) place)
+        (stepsIn (now (ours .entry)) (place .own))) ⌝ }
 {
-    let mut j: usize = 0;
-    while j < m {
-        if is_unanswered(list, words, distances, n, s, t, j) {
-            return j;
+    let mut j = first(ours, place.own);
+    while j < Head::MAX_STEPS {
+        if !is_kept(ours, theirs, distances, j, place.other) {
+            return Checked::Refused(place.step_answer(22, j));
         }
-        j += 1;
+        let later = next(ours, j);
+        if later <= j {
+            return Checked::Passed;
+        }
+        j = later;
     }
-    j
+    Checked::Passed
 }
 
-// The pair s, t: the labels, then the left steps from s, then the right steps from t.
+// The pair s, t: the labels, then our steps from s, then their steps from t.
 fn check_pair(
-    left: &[u8],
-    right: &[u8],
-    rows: &[u64],
-    columns: &[u64],
+    ours: &Side,
+    theirs: &Side,
     distances: &[u8],
     distances2: &[u8],
     s: usize,
     t: usize,
-) -> Examined
-    requires { ⌜ (s < 256) × (t < 256) ⌝ }
-    ensures { λ r. ⌜ r ≡ asExamined (pairVerdict (wordsView (now (left .entry)) (now (right .entry)) (now (rows .entry))) (answeredBy (stepsPart (now (left .entry))) (now (rows .entry)) (now (distances .entry)) (statesOf (now (right .entry)))) (answeredBy (stepsPart (now (right .entry))) (now (columns .entry)) (now (distances2 .entry)) (statesOf (now (left .entry)))) s t) ⌝ }
+) -> Checked
+    requires { ⌜ (s < 64) × (t < 64) ⌝ }
+    ensures { λ r. ⌜ r ≡ asChecked (pairIn (now (ours .entry)) (now (theirs .entry)) (now (distances .entry)) (now (distances2 .entry)) s t) ⌝ }
 {
-    if label(labels(left), s) != label(labels(right), t) {
-        return Examined::Stopped(Answer {
+    if label(ours, s) != label(theirs, t) {
+        return Checked::Refused(Answer {
             code: 17,
             file: 2,
             a: s,
@@ -98,112 +77,89 @@ fn check_pair(
             d: 0,
         });
     }
-    let ours = steps(left);
-    let m = step_count(left);
-    let j = first_unanswered(ours, m, rows, distances, states(right), s, t);
-    if j < m {
-        return Examined::Stopped(Answer {
-            code: 22,
-            file: 2,
-            a: 0,
-            b: s,
-            c: t,
-            d: j,
-        });
-    }
-    let theirs = steps(right);
-    let m2 = step_count(right);
-    let k = first_unanswered(theirs, m2, columns, distances2, states(left), t, s);
-    if k < m2 {
-        return Examined::Stopped(Answer {
-            code: 22,
-            file: 2,
-            a: 1,
-            b: s,
-            c: t,
-            d: k,
-        });
-    }
-    Examined::Passed
+    let left = check_steps(
+        ours,
+        theirs,
+        distances,
+        Place {
+            side: 0,
+            own: s,
+            other: t,
+        },
+    );
+    let Checked::Passed = left else {
+        return left;
+    };
+    check_steps(
+        theirs,
+        ours,
+        distances2,
+        Place {
+            side: 1,
+            own: t,
+            other: s,
+        },
+    )
 }
 
-// A number of states, and 64 where it is more.
-fn limit(n: usize) -> usize
-    ensures { λ r. ⌜ r ≡ min n 64 ⌝ }
+// Our state s with the states related to it, in rising order.
+fn check_row(ours: &Side, theirs: &Side, distances: &[u8], distances2: &[u8], s: usize) -> Checked
+    requires { ⌜ s < 64 ⌝ }
+    ensures { λ r. ⌜ r ≡ asChecked (rowIn (now (ours .entry)) (now (theirs .entry)) (now (distances .entry)) (now (distances2 .entry)) s) ⌝ }
 {
-    if n < 64 { n } else { 64 }
-}
-
-// The left state s with the states related to it, in rising order.
-fn check_row(
-    left: &[u8],
-    right: &[u8],
-    rows: &[u64],
-    columns: &[u64],
-    distances: &[u8],
-    distances2: &[u8],
-    s: usize,
-) -> Examined
-    requires { ⌜ s < 256 ⌝ }
-    ensures { λ r. ⌜ r ≡ asExamined (rowVerdict (wordsView (now (left .entry)) (now (right .entry)) (now (rows .entry))) (answeredBy (stepsPart (now (left .entry))) (now (rows .entry)) (now (distances .entry)) (statesOf (now (right .entry)))) (answeredBy (stepsPart (now (right .entry))) (now (columns .entry)) (now (distances2 .entry)) (statesOf (now (left .entry)))) s) ⌝ }
-{
-    let n = limit(states(right));
-    let mut rest = word(rows, s);
+    let n = states(theirs);
+    let mut rest = related(ours, s);
     let mut t = rest.first();
     while t < n {
-        let pair = check_pair(left, right, rows, columns, distances, distances2, s, t);
-        let Examined::Passed = pair else {
+        let pair = check_pair(ours, theirs, distances, distances2, s, t);
+        let Checked::Passed = pair else {
             return pair;
         };
         rest = rest.remove(t);
         t = rest.first();
     }
-    Examined::Passed
+    Checked::Passed
 }
 
 // All related pairs.
-fn check_pairs(
-    left: &[u8],
-    right: &[u8],
-    rows: &[u64],
-    columns: &[u64],
-    distances: &[u8],
-    distances2: &[u8],
-) -> Examined
-    ensures { λ r. ⌜ r ≡ asExamined (pairsVerdict (wordsView (now (left .entry)) (now (right .entry)) (now (rows .entry))) (answeredBy (stepsPart (now (left .entry))) (now (rows .entry)) (now (distances .entry)) (statesOf (now (right .entry)))) (answeredBy (stepsPart (now (right .entry))) (now (columns .entry)) (now (distances2 .entry)) (statesOf (now (left .entry))))) ⌝ }
+fn check_pairs(ours: &Side, theirs: &Side, distances: &[u8], distances2: &[u8]) -> Checked
+    ensures { λ r. ⌜ r ≡ asChecked (firstIn (verdictIn (now (ours .entry)) (now (theirs .entry)) (now (distances .entry)) (now (distances2 .entry)))
+        (checksIn (now (ours .entry)) (now (theirs .entry)))) ⌝ }
 {
-    let n = states(left);
+    let n = states(ours);
     let mut s: usize = 0;
     while s < n {
-        let row = check_row(left, right, rows, columns, distances, distances2, s);
-        let Examined::Passed = row else {
+        let row = check_row(ours, theirs, distances, distances2, s);
+        let Checked::Passed = row else {
             return row;
         };
         s += 1;
     }
-    Examined::Passed
+    Checked::Passed
 }
 
-// Whether c is related to the fixed state b, and the chain length at b from c is n or more.
-fn is_long(words: &[u64], chains: &[u8], n: usize, b: usize, c: usize) -> bool
-    requires { ⌜ (b < 256) × (c < 256) ⌝ }
-    ensures { λ r. ⌜ r ≡ longBy (now (words .entry)) (now (chains .entry)) n b c ⌝ }
+// Whether their state c is related to our fixed state b, and its chain at b has as many steps as they have states.
+fn is_long(ours: &Side, theirs: &Side, chains: &[u8], b: usize, c: usize) -> bool
+    requires { ⌜ (b < 64) × (c < 64) ⌝ }
+    ensures { λ r. ⌜ r ≡ longBy (viewIn (now (ours .entry)) (now (theirs .entry))) (now (chains .entry)) b c ⌝ }
 {
-    let related = word(words, b);
-    if related.has(c) {
-        return n <= byte(chains, b * 64 + c);
+    let states_of = related(ours, b);
+    if states_of.has(c) {
+        return states(theirs) <= byte(chains, b * Head::MAX_STATES + c);
     }
     false
 }
 
-// The first state below n whose chain at b is too long, and n where there is none.
-fn first_long(words: &[u64], chains: &[u8], n: usize, b: usize) -> usize
-    requires { ⌜ (b < 256) × (n < 256) ⌝ }
-    ensures { λ r. ⌜ r ≡ firstBelow n (longBy (now (words .entry)) (now (chains .entry)) n b) ⌝ }
+// Their first state whose chain at our state b is too long, and their number of states where there is none.
+fn first_long(ours: &Side, theirs: &Side, chains: &[u8], b: usize) -> usize
+    requires { ⌜ b < 64 ⌝ }
+    ensures { λ r. ⌜ r ≡ firstBelow (systemIn (now (theirs .entry)) .states)
+        (longBy (viewIn (now (ours .entry)) (now (theirs .entry))) (now (chains .entry)) b) ⌝ }
 {
+    let n = states(theirs);
     let mut c: usize = 0;
     while c < n {
-        if is_long(words, chains, n, b, c) {
+        if is_long(ours, theirs, chains, b, c) {
             return c;
         }
         c += 1;
@@ -211,16 +167,17 @@ fn first_long(words: &[u64], chains: &[u8], n: usize, b: usize) -> usize
     c
 }
 
-// The chains of a side with n states at the m states of the other side.
-fn check_chains(words: &[u64], chains: &[u8], side: usize, m: usize, n: usize) -> Examined
-    requires { ⌜ (m < 256) × (n < 256) ⌝ }
-    ensures { λ r. ⌜ r ≡ asExamined (firstChain side m n (longBy (now (words .entry)) (now (chains .entry)) n)) ⌝ }
+// Their chains at our states; they are the side named.
+fn check_chains(ours: &Side, theirs: &Side, chains: &[u8], side: usize) -> Checked
+    ensures { λ r. ⌜ r ≡ asChecked (chainsIn (now (ours .entry)) (now (theirs .entry)) side (now (chains .entry))) ⌝ }
 {
+    let m = states(ours);
+    let n = states(theirs);
     let mut b: usize = 0;
     while b < m {
-        let c = first_long(words, chains, n, b);
+        let c = first_long(ours, theirs, chains, b);
         if c < n {
-            return Examined::Stopped(Answer {
+            return Checked::Refused(Answer {
                 code: 23,
                 file: 2,
                 a: side,
@@ -231,42 +188,33 @@ fn check_chains(words: &[u64], chains: &[u8], side: usize, m: usize, n: usize) -
         }
         b += 1;
     }
-    Examined::Passed
+    Checked::Passed
 }
 
-// The examination of two tables and a relation. `rows` has a word for each left state and `columns` one for each right state; `distances` and `chains` are
-// those of the left side, `distances2` and `chains2` those of the right side.
+// The examination of two sides: `distances` and `chains` are the match distances and the chain lengths of our steps, `distances2` and `chains2` those of
+// theirs, in rows of 64.
 pub fn examine(
-    left: &[u8],
-    right: &[u8],
-    rows: &[u64],
-    columns: &[u64],
+    ours: &Side,
+    theirs: &Side,
     distances: &[u8],
     distances2: &[u8],
     chains: &[u8],
     chains2: &[u8],
-    starts: Starts,
-) -> Examined
-    ensures { λ r. ⌜ r ≡ asExamined (examinedBy (now (left .entry)) (now (right .entry)) (now (rows .entry)) (now (columns .entry)) (now (distances .entry)) (now (distances2 .entry)) (now (chains .entry)) (now (chains2 .entry)) starts) ⌝ }
+) -> Checked
+    ensures { λ r. ⌜ r ≡ asChecked (examinedIn (now (ours .entry)) (now (theirs .entry)) (now (distances .entry)) (now (distances2 .entry))
+        (now (chains .entry)) (now (chains2 .entry))) ⌝ }
 {
-    let related = word(rows, starts.left);
-    if !related.has(starts.right) {
-        return Examined::Stopped(Answer {
-            code: 16,
-            file: 2,
-            a: starts.left,
-            b: starts.right,
-            c: 0,
-            d: 0,
-        });
-    }
-    let pairs = check_pairs(left, right, rows, columns, distances, distances2);
-    let Examined::Passed = pairs else {
+    let starts = check_starts(ours, theirs);
+    let Checked::Passed = starts else {
+        return starts;
+    };
+    let pairs = check_pairs(ours, theirs, distances, distances2);
+    let Checked::Passed = pairs else {
         return pairs;
     };
-    let first = check_chains(columns, chains, 0, states(right), states(left));
-    let Examined::Passed = first else {
-        return first;
+    let left = check_chains(theirs, ours, chains, 0);
+    let Checked::Passed = left else {
+        return left;
     };
-    check_chains(rows, chains2, 1, states(left), states(right))
+    check_chains(ours, theirs, chains2, 1)
 }

@@ -1,7 +1,7 @@
--- Laws of the file of a certificate: it has L bytes, each part stands where the layout says, and it is read with its own sizes, rows and ranks.
--- What is read of a file is read too of an output that begins with it. Assumes nothing.
+-- Laws of the file of a certificate: ranks that agree give one file, it has L bytes, each part stands where the layout says, and it is read with its own
+-- sizes, rows and ranks. What is read of a file is read too of an output that begins with it. Assumes nothing.
 use Prim.Native.Nat.{ℕ, zero, suc, _+_, _*_, _/_, _%_, _≤_, _<_}
-use mathlib.Core.Path.{_≡_, refl, sym, ap, _∙_}
+use mathlib.Core.Path.{_≡_, refl, sym, ap, ap₂, _∙_}
 use mathlib.Core.List.{List, [], _∷_, _++_}
 use native.Mathlib.Nat.{mod-lt, zero-lt-suc}
 use native.Mathlib.Omega.{arith}
@@ -9,7 +9,7 @@ use lib.ListN.{length, take, length-append, length-take, List·getD-append}
 use lib.Seq.{take-at, take-all, getD-take, getD-append-add, ext-getD}
 use Rattle.lists.specs.Lists.{tabulate, grid, putFront}
 use Rattle.lists.specs.Numbers.{byteAt, bigEndian, bigBytes}
-use Rattle.lists.proofs.FillLaws.{length-grid, getD-grid, put-front-fits, part-length}
+use Rattle.lists.proofs.FillLaws.{tabulate-cong, length-grid, getD-grid, put-front-fits, part-length}
 use Rattle.bisimulation.specs.Systems.{Ranks, Bytes}
 use Rattle.answers.specs.Numbers.{sixNumbers}
 use Rattle.answers.specs.Causes.{NoCause}
@@ -56,14 +56,21 @@ pub record RanksAgree (z : Sizes) (q r : Ranks) : Type 0 where
   pub stutter′ : (t s : ℕ) → t < z .n2 → s < z .n1 → q .stutter′ t s ≡ r .stutter′ t s
   pub match′ : (j s : ℕ) → j < z .m2 → s < z .n1 → q .match′ j s ≡ r .match′ j s
 
-pub agree-trans : {z : Sizes} {p q r : Ranks} → RanksAgree z p q → RanksAgree z q r → RanksAgree z p r
-agree-trans a b =
-    record {
-      stutter = λ s t h k. a .stutter s t h k ∙ b .stutter s t h k;
-      match = λ j t h k. a .match j t h k ∙ b .match j t h k;
-      stutter′ = λ t s h k. a .stutter′ t s h k ∙ b .stutter′ t s h k;
-      match′ = λ j s h k. a .match′ j s h k ∙ b .match′ j s h k;
-    }
+grid-same : (n m : ℕ) (f g : ℕ → ℕ → ℕ) → ((s t : ℕ) → s < n → t < m → f s t ≡ g s t) → grid n m f ≡ grid n m g
+unfolding grid
+grid-same zero m f g h = refl
+grid-same (suc n) m f g h =
+    ap₂ _++_ (grid-same n m f g (λ s t a b. h s t (omega arith) b)) (tabulate-cong m (f n) (g n) (λ t b. h n t (omega arith) b))
+
+-- ranks that agree give one file
+pub file-same : (z : Sizes) (rows : List ℕ) (q r : Ranks) → RanksAgree z q r → certificateFile z rows q ≡ certificateFile z rows r
+unfolding certificateFile
+file-same z rows q r h =
+    let al = grid-same (z .n1) (z .n2) (q .stutter) (r .stutter) (h .stutter) in
+    let ar = grid-same (z .n2) (z .n1) (q .stutter′) (r .stutter′) (h .stutter′) in
+    let cl = grid-same (z .m1) (z .n2) (q .match) (r .match) (h .match) in
+    let cr = grid-same (z .m2) (z .n1) (q .match′) (r .match′) (h .match′) in
+    rw (al, ar, cl, cr)
 
 -- ---- where each part ends
 
@@ -219,6 +226,9 @@ module _ (z : Sizes) (rows : List ℕ) (r : Ranks) (full : length rows ≡ 8 * z
       long : length (certificateFile z rows r) ≡ certificateLength z
       long = file-length z rows r full
 
+      wide : ℕ → Type 0
+      wide = conditions.HasWideBit (rowsPart (certificateFile z rows r) z) (z .n2)
+
       none : NoCause (certificateCauses 2 z (certificateFile z rows r))
       none = (
         λ h. omega (arith, long),
@@ -230,17 +240,12 @@ module _ (z : Sizes) (rows : List ℕ) (r : Ranks) (full : length rows ≡ 8 * z
               λ h. h file-sizes,
               (
                 λ h. h long,
-                none-below (z .n1)
-                    (conditions.HasWideBit (rowsPart (certificateFile z rows r) z) (z .n2)) (sixNumbers 15 2) (λ s l h. narrow s l (rw (file-rows z rows r full) at h)),
+                none-below (z .n1) wide (sixNumbers 15 2) (λ s l h. narrow s l (rw (file-rows z rows r full) at h)),
               ),
             ),
           ),
         ),
       )
-
-  pub good-in-file : NoWideRow rows (z .n1) (z .n2) → (c : List ℕ) → certificateIn z c ≡ certificateFile z rows r
-      → readCertificate z (certificateIn z c) ≡ read.Good z
-  good-in-file narrow c holds = rw holds (file-good narrow)
 
 -- ---- the file is bytes
 

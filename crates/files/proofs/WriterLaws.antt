@@ -1,4 +1,4 @@
--- Laws of the writer: the parts of an output that it lends, one after the other, and what its output holds. Assumes nothing.
+-- Laws of the writer: the parts of an output that it lends, one after the other, what its grids hold, and what its output holds. Assumes nothing.
 use Prim.Native.Nat.{ℕ, _+_, _*_, _-_, _≤_, _<_}
 use mathlib.Core.Path.{_≡_, sym, ap, _∙_}
 use mathlib.Core.List.{List, _++_}

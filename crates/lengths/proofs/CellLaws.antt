@@ -38,13 +38,15 @@ module _ (n : ℕ) {j a : ℕ} {f : ℕ → ℕ → ℕ} {d at : List ℕ} (w : 
   rows-part = part-length at a 64 rows-room
 
   -- it is copied by index
-  pub rows-put : {row ys : List ℕ} → row ≡ tabulate 64 (f j) → ys ≡ tabulate (length (part at a (a + 64))) (λ t. getD row t 0) → Rows (j + 1) (a + 64) 64 f d (putMid a (a + 64 - a) at ys)
+  pub rows-put : {row ys : List ℕ} → row ≡ tabulate 64 (f j) → ys ≡ tabulate (length (part at a (a + 64))) (λ t. getD row t 0)
+      → Rows (j + 1) (a + 64) 64 f d (putMid a (a + 64 - a) at ys)
   rows-put {row} {ys} r e =
       rows-more n w h len (e ∙ tabulate-cong (length (part at a (a + 64))) _ _
       (λ t l. ap (λ (x : List ℕ). getD x t 0) r ∙ getD-tabulate 64 t (f j) (rw rows-part at l)))
 
 -- the rows that are left are as they were
-pub rows-rest : (n : ℕ) {s a : ℕ} {f : ℕ → ℕ → ℕ} {d at : List ℕ} → Rows s a 64 f d at → length d ≡ n * 64 → ((j t : ℕ) → s ≤ j → j < n → t < 64 → getD d (j * 64 + t) 0 ≡ f j t)
+pub rows-rest : (n : ℕ) {s a : ℕ} {f : ℕ → ℕ → ℕ} {d at : List ℕ} → Rows s a 64 f d at → length d ≡ n * 64
+    → ((j t : ℕ) → s ≤ j → j < n → t < 64 → getD d (j * 64 + t) 0 ≡ f j t)
     → at ≡ grid n 64 f
 rows-rest n {s} {a} {f} {d} {at} w len rest =
     grid-cells n 64 f at (omega arith) (w .rows .len ∙ len) (λ j t h l.

@@ -1,24 +1,25 @@
 -- Laws of match distances: a step is matched exactly where its distance is below the number of the other's states. Assumes nothing.
-use Prim.Native.Nat.{ℕ, _≤_, _<_}
+use Prim.Native.Nat.{ℕ, _<_}
 use mathlib.Core.Path.{_≡_, ap}
 use mathlib.Core.Logic.{_↔_, ⊎-elim}
 use mathlib.Core.Bool.{Bool, not, cond}
 use native.Mathlib.Omega.{arith}
 use native.Mathlib.Decide.{decLt}
 use lib.Dec.{T, leb, ltb, leb→le, le→leb, ltb→lt, lt→ltb, T-not, not-T}
-use Rattle.lists.proofs.BoolLaws.{T-dec, same-T, cond-upto}
-use Rattle.lists.proofs.BelowLaws.{any-i, first-passes, first-bound}
+use Rattle.lists.proofs.BoolLaws.{T-dec, same-T}
+use Rattle.lists.proofs.BelowLaws.{any-i, first-passes}
 use Rattle.bisimulation.specs.Systems.{View}
 use Rattle.bisimulation.specs.Maker.{matchesWithin, matched, distance, matchRank}
 use Rattle.bisimulation.proofs.RunLaws.{matched-e}
-use Rattle.lengths.specs.Cells.{distanceAt}
 
 module _ (v : View) (j t : ℕ) where
   -- a step is matched exactly where its distance is below the number of the other's states
   pub matched-distance : T (matched v j t) ↔ (distance v j t < v .other .states)
   unfolding matched distance
-  matched-distance =
-      (λ h. matched-e v j t h .0, λ h. any-i (v .other .states) (λ k. matchesWithin v j k t) (distance v j t) h (first-passes (v .other .states) (λ k. matchesWithin v j k t) h))
+  matched-distance = (
+    λ h. matched-e v j t h .0,
+    λ h. any-i (v .other .states) (λ k. matchesWithin v j k t) (distance v j t) h (first-passes (v .other .states) (λ k. matchesWithin v j k t) h),
+  )
 
   pub matched-test : matched v j t ≡ ltb (distance v j t) (v .other .states)
   matched-test = same-T _ _ (λ h. lt→ltb _ _ (matched-distance .0 h)) (λ h. matched-distance .1 (ltb→lt _ _ h))
@@ -37,12 +38,3 @@ module _ (v : View) (j t : ℕ) where
     where
       not-leb : (T (leb (v .other .states) (distance v j t)) → ⊥) → distance v j t < v .other .states
       not-leb n = elim (decLt (distance v j t) (v .other .states)) [ yes l ↦ l | no l ↦ absurd (n (le→leb (v .other .states) (distance v j t) (omega arith))) ]
-
-  -- no distance is above the number of states
-  pub distance-most : distance v j t ≤ v .other .states
-  unfolding distance
-  distance-most = first-bound (v .other .states) (λ k. matchesWithin v j k t)
-
-  pub distance-at-most : distanceAt v j t ≤ v .other .states
-  unfolding distanceAt
-  distance-at-most = cond-upto (ltb j (v .own .steps)) (distance v j t) (v .other .states) (λ h. distance-most)

@@ -60,7 +60,7 @@ module _ (word : ℕ) (row : List ℕ) (x y : ℕ) where
 -- ---- the row and its laws
 
 module _ (v : View) (plain : Plain v) (j : ℕ) where
-  open View v using (own, other, related, answers)
+  open View v using (own, other, related, serves)
 
   abbrev from : ℕ
   from = own .from j
@@ -77,7 +77,8 @@ module _ (v : View) (plain : Plain v) (j : ℕ) where
 
   module _ {e : ℕ} {row : List ℕ} (b : Bounds v j e row) where
     -- step e meets the obligation, and the length at its start becomes 0
-    pub bounds-zero : e < other .steps → other .from e < 64 → T (related from (other .from e)) → T (related (own .to j) (other .to e)) → Bounds v j (e + 1) (set row (other .from e) 0)
+    pub bounds-zero : e < other .steps → other .from e < 64 → T (related from (other .from e)) → T (related (own .to j) (other .to e))
+        → Bounds v j (e + 1) (set row (other .from e) 0)
     unfolding matchesWithin
     bounds-zero l h p q =
         let k : other .from e < length row = omega (arith, b .len) in
@@ -85,8 +86,10 @@ module _ (v : View) (plain : Plain v) (j : ℕ) where
           len = length-set row (other .from e) 0 ∙ b .len;
           most = set-each (λ t y. y ≤ other .states) row (other .from e) 0 k zero-le (b .most);
           within = set-each (λ t y. y < other .states → T (matchesWithin v j y t)) row (other .from e) 0 k
-              (λ z. and-i (related from (other .from e)) (is2a v j (other .from e)) p (is2a-i v j (other .from e) (e, l, refl, plain .answers j e, q))) (b .within);
-          none-inside = below-more (λ (i : ℕ). T (related from (other .from i)) → T (related (own .to j) (other .to i)) → getD (set row (other .from e) 0) (other .from i) 0 ≡ 0) e
+              (λ z. and-i (related from (other .from e)) (is2a v j (other .from e)) p (is2a-i v j (other .from e) (e, l, refl, plain .serves j e, q)))
+              (b .within);
+          none-inside = below-more
+              (λ (i : ℕ). T (related from (other .from i)) → T (related (own .to j) (other .to i)) → getD (set row (other .from e) 0) (other .from i) 0 ≡ 0) e
               (λ i d r s. elim (ℕ-discrete (other .from i) (other .from e)) [
                 | yes w ↦ ap (λ (y : ℕ). getD (set row (other .from e) 0) y 0) w ∙ getD-set-same row (other .from e) 0 0 k
                 | no w ↦ getD-set-other row (other .from e) (other .from i) 0 0 w ∙ b .none-inside i d r s
@@ -106,7 +109,8 @@ module _ (v : View) (plain : Plain v) (j : ℕ) where
         }
 
     -- a step that shortens a length
-    pub bounds-lower : (k : ℕ) → k < other .steps → other .from k < 64 → other .to k < 64 → getD row (other .to k) 0 + 1 < getD row (other .from k) 0 → T (related from (other .from k))
+    pub bounds-lower : (k : ℕ) → k < other .steps → other .from k < 64 → other .to k < 64 → getD row (other .to k) 0 + 1 < getD row (other .from k) 0
+        → T (related from (other .from k))
         → Bounds v j e (set row (other .from k) (getD row (other .to k) 0 + 1))
     unfolding matchesWithin
     bounds-lower k l hx hy short p =
@@ -119,7 +123,8 @@ module _ (v : View) (plain : Plain v) (j : ℕ) where
         let here = eq→eqb x x refl in
         let run : T (matchesWithin v j z y) = b .within y hy (omega arith) in
         let longer : T (matchesWithin v j (suc z) x) =
-        and-i (related from x) _ p (or-r (is2a v j x) _ (any-i (other .steps) (λ i. eqb (other .from i) x && other .silent i && matchesWithin v j z (other .to i)) k l (search and-i))) in
+        and-i (related from x) _ p (or-r (is2a v j x) _
+        (any-i (other .steps) (λ i. eqb (other .from i) x && other .silent i && matchesWithin v j z (other .to i)) k l (search and-i))) in
         record {
           len = length-set row x (z + 1) ∙ b .len;
           most = set-each (λ t y. y ≤ other .states) row x (z + 1) kx (omega arith) (b .most);
@@ -136,7 +141,8 @@ module _ (v : View) (plain : Plain v) (j : ℕ) where
     pub start-hit : e < other .steps → x < 64 → hasBit a x ≡ true → hasBit w y ≡ true → Bounds v j (e + 1) (set row x 0)
     start-hit l h p q =
         rw x-is
-        (bounds-zero b l (rw x-is at h) (true-T _ (sym (a-is (other .from e)) ∙ ap (hasBit a) (sym x-is) ∙ p)) (true-T _ (sym (w-is (other .to e)) ∙ ap (hasBit w) (sym y-is) ∙ q)))
+        (bounds-zero b l (rw x-is at h) (true-T _ (sym (a-is (other .from e)) ∙ ap (hasBit a) (sym x-is) ∙ p))
+        (true-T _ (sym (w-is (other .to e)) ∙ ap (hasBit w) (sym y-is) ∙ q)))
 
     pub start-apart : hasBit a x ≡ false → Bounds v j (e + 1) row
     start-apart p = bounds-skip b (λ r s. false-not-T _ (sym (a-is (other .from e)) ∙ ap (hasBit a) (sym x-is) ∙ p) r)
@@ -151,7 +157,8 @@ module _ (v : View) (plain : Plain v) (j : ℕ) where
       → (T (related from (other .from e)) → other .to e < 64 → getD row (other .from e) 0 ≤ getD row (other .to e) 0 + 1) → Settled v j (e + 1) row
   settled-more {e} {row} s h =
       record {
-        short = below-more (λ (k : ℕ). T (related from (other .from k)) → other .to k < 64 → getD row (other .from k) 0 ≤ getD row (other .to k) 0 + 1) e (s .short) h;
+        short = below-more (λ (k : ℕ). T (related from (other .from k)) → other .to k < 64 → getD row (other .from k) 0 ≤ getD row (other .to k) 0 + 1) e
+            (s .short) h;
       }
 
   -- ---- the end
@@ -216,7 +223,8 @@ module _ (v : View) (plain : Plain v) (j : ℕ) where
         let k : x < length row = omega (arith, r .bounds .len, q .0) in
         let f = total-falls row x (getD row y 0 + 1) (q .0) k (q .2) in
         record {
-          bounds = rw (x-is, y-is) (bounds-lower (r .bounds) e l (rw x-is at (q .0)) (rw y-is at (q .1)) (rw (x-is, y-is) at (q .2)) (subst T (is (other .from e)) (rw x-is at (q .3))));
+          bounds = rw (x-is, y-is) (bounds-lower (r .bounds) e l (rw x-is at (q .0)) (rw y-is at (q .1)) (rw (x-is, y-is) at (q .2))
+              (subst T (is (other .from e)) (rw x-is at (q .3))));
           settled = λ w. absurd (false≢true (sym w));
           same = λ w. absurd (false≢true (sym w));
           fell = λ w. by changed refl f;
@@ -231,7 +239,8 @@ module _ (v : View) (plain : Plain v) (j : ℕ) where
         record {
           bounds = r .bounds;
           settled = λ w. settled-more (r .settled w)
-              (λ p l. shortens-not word row (other .from e) (other .to e) (rw (x-is, y-is) at d) h (small (other .from e) p) l (subst T (sym (is (other .from e))) p));
+              (λ p l. shortens-not word row (other .from e) (other .to e) (rw (x-is, y-is) at d) h (small (other .from e) p) l
+              (subst T (sym (is (other .from e))) p));
           same = r .same;
           fell = r .fell;
         }

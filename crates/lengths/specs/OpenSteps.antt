@@ -1,36 +1,43 @@
--- The open steps of a side at a state t of the other side: those that may stand in a chain at t, kept in a list of their own, and one round over them.
-use Prim.Native.Nat.{ℕ, suc, _*_, _≤_, _<_}
+-- Inner: the open steps of a side at a state t of the other side, those that may stand in a chain at t, kept in two lists of their own, and one round over
+-- them.
+use Prim.Native.Nat.{ℕ, suc, _≤_, _<_}
 use mathlib.Core.Path.{_≡_}
-use mathlib.Core.Bool.{Bool, true, cond, _&&_}
-use mathlib.Core.List.{List, []}
+use mathlib.Core.Bool.{Bool, true, false, cond, _&&_}
+use mathlib.Core.List.{List}
 use lib.Dec.{ltb, eqb}
-use lib.ListN.{length, getD}
+use lib.ListN.{length}
 use Rattle.lists.specs.Below.{mostBelow}
-use Rattle.bisimulation.specs.Systems.{View}
-use Rattle.bisimulation.specs.Maker.{stutters}
-use Rattle.tables.specs.Table.{fromOf, toOf}
-use Rattle.lengths.specs.Side.{systemWith}
+use Rattle.lists.specs.Numbers.{byteAt}
+use Rattle.bisimulation.specs.Systems.{System}
 
--- A side all of whose steps may stand in a chain.
-abbrev pub openSide : List ℕ → View
-openSide steps = record { own = systemWith steps 64; other = systemWith [] 0; related = λ s t. true; answers = λ j k. true }
+-- The system of the first `count` kept steps, given by the states that they leave and those that they enter.
+abbrev pub keptSystem : (from to : List ℕ) → ℕ → System
+keptSystem from to count =
+    record { states = 64; steps = count; initial = λ s. false; label = λ s. 0; from = byteAt from; to = byteAt to; silent = λ j. true }
 
--- The own step j is open at t: it leaves a state below 64, and may stand in a chain.
-unfoldable pub isOpen : View → ℕ → ℕ → Bool
-isOpen v t j = ltb (v .own .from j) 64 && stutters v t j
+-- The test that every step passes.
+abbrev pub every : ℕ → Bool
+every j = true
 
--- One more than the greatest length over the next states of s by the first m steps, and 0 where there is none.
-unfoldable pub longest : List ℕ → (ℕ → ℕ) → ℕ → ℕ → ℕ
-longest steps lengths m s = mostBelow m (λ j. cond (eqb (fromOf steps j) s) (suc (lengths (toOf steps j))) 0)
+-- Step j is open: it leaves a state below 64, and passes the test.
+unfoldable pub isOpen : System → (ℕ → Bool) → ℕ → Bool
+isOpen S test j = ltb (S .from j) 64 && test j
 
--- The ends of all steps are below 64.
-abbrev pub Ends : List ℕ → Type 0
-Ends steps = (i : ℕ) → getD steps i 0 < 64
+-- One more than the greatest length over the next states of s by those of the first m steps that pass the test, and 0 where there is none.
+unfoldable pub longest : System → (ℕ → Bool) → (ℕ → ℕ) → ℕ → ℕ → ℕ
+longest S test lengths m s = mostBelow m (λ j. cond (eqb (S .from j) s && test j) (suc (lengths (S .to j))) 0)
 
--- `steps` holds, as its first `count`, the open ones of the first j own steps: they lie below 64, and give each state the same greatest length.
-pub record Open (v : View) (t j : ℕ) (steps : List ℕ) (count : ℕ) : Type 0 where
-  pub len : length steps ≡ 512
+-- There is room for the kept steps, and their ends are below 64.
+pub record Ends (from to : List ℕ) (count : ℕ) : Type 0 where
+  pub few : count ≤ 256
+  pub from< : (i : ℕ) → i < count → byteAt from i < 64
+  pub to< : (i : ℕ) → i < count → byteAt to i < 64
+
+-- The lists hold, as their first `count`, the open ones of the first j steps: they lie below 64, and give each state the same greatest length.
+pub record Open (S : System) (test : ℕ → Bool) (j : ℕ) (from to : List ℕ) (count : ℕ) : Type 0 where
+  pub from-room : length from ≡ 256
+  pub to-room : length to ≡ 256
   pub few : count ≤ j
-  pub small : (i : ℕ) → i < count * 2 → getD steps i 0 < 64
-  pub same : (lengths : ℕ → ℕ) (s : ℕ) → s < 64 → longest steps lengths count s
-      ≡ mostBelow j (λ i. cond (eqb (v .own .from i) s && stutters v t i) (suc (lengths (v .own .to i))) 0)
+  pub from< : (i : ℕ) → i < count → byteAt from i < 64
+  pub to< : (i : ℕ) → i < count → byteAt to i < 64
+  pub same : (lengths : ℕ → ℕ) (s : ℕ) → s < 64 → longest (keptSystem from to count) every lengths count s ≡ longest S test lengths j s

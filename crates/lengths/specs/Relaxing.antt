@@ -1,4 +1,4 @@
--- What a row of lengths keeps while it is relaxed towards the match distances of the own step j, one length for each state of the other side.
+-- Inner: what a row of lengths keeps while it is relaxed towards the match distances of the own step j, one length for each state of the other side.
 use Prim.Native.Nat.{ℕ, _+_, _≤_, _<_}
 use mathlib.Core.Path.{_≡_}
 use mathlib.Core.Bool.{Bool, true, false, _&&_}
@@ -24,11 +24,13 @@ pub record Bounds (v : View) (j e : ℕ) (row : List ℕ) : Type 0 where
   pub len : length row ≡ 64
   pub most : (t : ℕ) → t < 64 → getD row t 0 ≤ v .other .states
   pub within : (t : ℕ) → t < 64 → getD row t 0 < v .other .states → T (matchesWithin v j (getD row t 0) t)
-  pub none-inside : (k : ℕ) → k < e → T (v .related (v .own .from j) (v .other .from k)) → T (v .related (v .own .to j) (v .other .to k)) → getD row (v .other .from k) 0 ≡ 0
+  pub none-inside : (k : ℕ) → k < e → T (v .related (v .own .from j) (v .other .from k)) → T (v .related (v .own .to j) (v .other .to k))
+      → getD row (v .other .from k) 0 ≡ 0
 
 -- None of the other's first e steps shortens a length.
 pub record Settled (v : View) (j e : ℕ) (row : List ℕ) : Type 0 where
-  pub short : (k : ℕ) → k < e → T (v .related (v .own .from j) (v .other .from k)) → v .other .to k < 64 → getD row (v .other .from k) 0 ≤ getD row (v .other .to k) 0 + 1
+  pub short : (k : ℕ) → k < e → T (v .related (v .own .from j) (v .other .from k)) → v .other .to k < 64
+      → getD row (v .other .from k) 0 ≤ getD row (v .other .to k) 0 + 1
 
 -- A round over the other's first e steps made `row` of `before`: where it changed nothing the row is settled, else the sum of the lengths fell.
 pub record Round (v : View) (j e : ℕ) (before row : List ℕ) (changed : Bool) : Type 0 where

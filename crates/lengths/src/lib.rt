@@ -1,25 +1,36 @@
-// The maker's arithmetic for one side: match distances by relaxing a row of lengths, and the lengths of stuttering chains by recursion on their bound.
+// The maker's arithmetic for one side: match distances by relaxing a row of lengths, the lengths of stuttering chains by recursion on their bound, and the
+// ranks that the two give.
 use lists::byte;
+use sides::Side;
+use sides::from;
+use sides::related;
+use sides::states;
+use sides::step_count;
+use sides::to;
+use tables::Head;
 use words::Row;
 ghost use mathlib.Core.Path.{_≡_};
-ghost use Prim.Native.Nat.{ℕ, _≤_, _<_};
+ghost use mathlib.Core.Bool.{true};
+ghost use Prim.Native.Nat.{ℕ, _^_, _≤_, _<_};
 ghost use lib.ListN.{length, getD};
 ghost use Rattle.lists.specs.Lists.{tabulate, grid};
-ghost use Rattle.bisimulation.specs.Maker.{distance, chainLength};
-ghost use Rattle.lengths.specs.Side.{stepCount, wordOf, sideOf};
-ghost use Rattle.lengths.specs.Cells.{distanceAt};
-ghost use Rattle.lengths.specs.Chains.{sideBy, chainBy};
-ghost use Rattle.lengths.specs.OpenSteps.{openSide, isOpen, longest, Ends, Open};
+ghost use Rattle.bisimulation.specs.Maker.{distance, chainAlong};
+ghost use Rattle.sides.specs.Side.{relatedTo, systemIn};
+ghost use Rattle.sides.specs.Views.{viewIn};
+ghost use Rattle.lengths.specs.Cells.{distanceAt, distanceTable, chainTable};
+ghost use Rattle.lengths.specs.Chains.{openBy, chainBy};
+ghost use Rattle.lengths.specs.OpenSteps.{keptSystem, every, isOpen, longest, Ends, Open};
 ghost use Rattle.lengths.specs.Relaxing.{shortens, Bounds, Round};
 
 // A length for each state below 64.
 struct Lengths {
-    at: [u8; 64],
+    at: [u8; Head::MAX_STATES],
 }
 
-// Steps that are kept, both ends of each, and how many they are.
+// Steps that are kept, the states that each leaves and enters, and how many they are.
 struct Kept {
-    steps: [u8; 512],
+    from: [u8; Head::MAX_STEPS],
+    to: [u8; Head::MAX_STEPS],
     count: usize,
 }
 
@@ -27,6 +38,12 @@ struct Kept {
 struct Relaxed {
     row: Lengths,
     changed: bool,
+}
+
+// The lengths of one side: the match distance of step j at t stands at 64 j + t, and the most steps in a chain at t from s at 64 t + s.
+pub struct Measured {
+    pub distances: [u8; Head::MAX_STEPS * Head::MAX_STATES],
+    pub chains: [u8; Head::MAX_STATES * Head::MAX_STATES],
 }
 
 // A byte as a usize.
@@ -37,36 +54,16 @@ fn wide(b: u8) -> usize
     b as usize
 }
 
-// How many steps there are, up to 256.
-fn step_count(steps: &[u8]) -> usize
-    ensures { λ r. ⌜ r ≡ stepCount (now (steps .entry)) ⌝ }
-{
-    let m = steps.len() / 2;
-    if m < 256 { m } else { 256 }
-}
-
-// The states related to s.
-fn word(words: &[u64], s: usize) -> Row
-    ensures { λ r. ⌜ r .0 ≡ wordOf (now (words .entry)) s ⌝ }
-{
-    if 64 <= s {
-        return Row::empty();
-    }
-    if s < words.len() {
-        Row(words[s])
-    } else {
-        Row::empty()
-    }
-}
+// ---- match distances
 
 // Whether a step from x to y shortens the length at x.
-fn is_shorter(row: &[u8; 64], states: Row, x: usize, y: usize) -> bool
+fn is_shorter(row: &[u8; Head::MAX_STATES], states: Row, x: usize, y: usize) -> bool
     ensures { λ r. ⌜ r ≡ shortens (states .0) (now (row .entry)) x y ⌝ }
 {
-    if 64 <= x {
+    if Head::MAX_STATES <= x {
         return false;
     }
-    if 64 <= y {
+    if Head::MAX_STATES <= y {
         return false;
     }
     if wide(row[x]) <= wide(row[y]) + 1 {
@@ -75,20 +72,24 @@ fn is_shorter(row: &[u8; 64], states: Row, x: usize, y: usize) -> bool
     states.has(x)
 }
 
-// The row to relax for the own step j: 0 at the states where it is matched by 2a, and n at the others.
-fn start(related: &[u64], own: &[u8], other: &[u8], n: u8, j: usize) -> Lengths
-    ensures { λ r. ⌜ Bounds (sideOf (now (related .entry)) (now (own .entry)) (now (other .entry)) n) j (stepCount (now (other .entry))) (r .at) ⌝ }
+// The row to relax for our step j: 0 at the states where it is matched by 2a, and their number of states at the others.
+fn start(ours: &Side, theirs: &Side, j: usize) -> Lengths
+    ensures row { λ r. ⌜ Bounds (viewIn (now (ours .entry)) (now (theirs .entry))) j (systemIn (now (theirs .entry)) .steps) (r .at) ⌝ }
+    ensures small { λ r. ⌜ relatedTo (now (ours .entry)) (systemIn (now (ours .entry)) .from j) < 2 ^ 64 ⌝ }
 {
-    let from = word(related, tables::from(own, j));
-    let to = word(related, tables::to(own, j));
-    let m = step_count(other);
-    let mut row = Lengths { at: [n; 64] };
+    let from_states = related(ours, from(ours, j));
+    let to_states = related(ours, to(ours, j));
+    let n = states(theirs) as u8;
+    let m = step_count(theirs);
+    let mut row = Lengths {
+        at: [n; Head::MAX_STATES],
+    };
     let mut e: usize = 0;
     while e < m {
-        let x = wide(other[e * 2]);
-        let y = wide(other[e * 2 + 1]);
-        if from.has(x) {
-            if to.has(y) {
+        let x = from(theirs, e);
+        let y = to(theirs, e);
+        if from_states.has(x) {
+            if to_states.has(y) {
                 row.at[x] = 0;
             }
         }
@@ -97,20 +98,21 @@ fn start(related: &[u64], own: &[u8], other: &[u8], n: u8, j: usize) -> Lengths
     row
 }
 
-// One round over the other side's steps: each shortens the length at the state it leaves, where it can.
-fn relax(related: &[u64], own: &[u8], other: &[u8], n: u8, j: usize, before: Lengths) -> Relaxed
-    requires { ⌜ Bounds (sideOf (now related) (now own) (now other) n) j (stepCount (now other)) (before .at) ⌝ }
-    ensures { λ r. ⌜ Round (sideOf (now (related .entry)) (now (own .entry)) (now (other .entry)) n) j (stepCount (now (other .entry))) (before .at) (r .row .at) (r .changed) ⌝ }
+// One round over their steps: each shortens the length at the state it leaves, where it can.
+fn relax(ours: &Side, theirs: &Side, j: usize, before: Lengths) -> Relaxed
+    requires { ⌜ Bounds (viewIn (now ours) (now theirs)) j (systemIn (now theirs) .steps) (before .at) ⌝ }
+    ensures { λ r. ⌜ Round (viewIn (now (ours .entry)) (now (theirs .entry))) j (systemIn (now (theirs .entry)) .steps)
+        (before .at) (r .row .at) (r .changed) ⌝ }
 {
-    let from = word(related, tables::from(own, j));
-    let m = step_count(other);
+    let from_states = related(ours, from(ours, j));
+    let m = step_count(theirs);
     let mut row = before;
     let mut changed = false;
     let mut e: usize = 0;
     while e < m {
-        let x = wide(other[e * 2]);
-        let y = wide(other[e * 2 + 1]);
-        if is_shorter(&row.at, from, x, y) {
+        let x = from(theirs, e);
+        let y = to(theirs, e);
+        if is_shorter(&row.at, from_states, x, y) {
             row.at[x] = row.at[y] + 1;
             changed = true;
         }
@@ -119,14 +121,14 @@ fn relax(related: &[u64], own: &[u8], other: &[u8], n: u8, j: usize, before: Len
     Relaxed { row, changed }
 }
 
-// The match distances of the own step j at each state of the other side, which has n states: a row is relaxed until a round changes nothing.
-fn step_distances(related: &[u64], own: &[u8], other: &[u8], n: u8, j: usize) -> Lengths
-    ensures { λ r. ⌜ r .at ≡ tabulate 64 (distance (sideOf (now (related .entry)) (now (own .entry)) (now (other .entry)) n) j) ⌝ }
+// The match distances of our step j at each of their states: a row is relaxed until a round changes nothing.
+fn step_distances(ours: &Side, theirs: &Side, j: usize) -> Lengths
+    ensures { λ r. ⌜ r .at ≡ tabulate 64 (distance (viewIn (now (ours .entry)) (now (theirs .entry))) j) ⌝ }
 {
-    let mut row = start(related, own, other, n, j);
+    let mut row = start(ours, theirs, j);
     let mut again = true;
     while again {
-        let next = relax(related, own, other, n, j, row);
+        let next = relax(ours, theirs, j, row);
         row = next.row;
         again = next.changed;
     }
@@ -145,17 +147,17 @@ fn put(lengths: Lengths, row: &mut [u8])
     }
 }
 
-// The match distances of all own steps, row by row: that of step j at t stands at 64 j + t. Past the last step the rows stay zeros.
-pub fn all_distances(related: &[u64], own: &[u8], other: &[u8], n: u8) -> [u8; 16384]
-    ensures { λ r. ⌜ r ≡ grid 256 64 (distanceAt (sideOf (now (related .entry)) (now (own .entry)) (now (other .entry)) n)) ⌝ }
+// The match distances of all our steps, row by row. Past the last step the rows stay zeros.
+fn all_distances(ours: &Side, theirs: &Side) -> [u8; Head::MAX_STEPS * Head::MAX_STATES]
+    ensures { λ r. ⌜ r ≡ grid 256 64 (distanceAt (viewIn (now (ours .entry)) (now (theirs .entry)))) ⌝ }
 {
-    let count = step_count(own);
-    let mut at = [0u8; 16384];
+    let count = step_count(ours);
+    let mut at = [0u8; Head::MAX_STEPS * Head::MAX_STATES];
     let mut a: usize = 0;
     let mut j: usize = 0;
     while j < count {
-        let e = a + 64;
-        let row = step_distances(related, own, other, n, j);
+        let e = a + Head::MAX_STATES;
+        let row = step_distances(ours, theirs, j);
         put(row, &mut at[a..e]);
         a = e;
         j += 1;
@@ -163,54 +165,70 @@ pub fn all_distances(related: &[u64], own: &[u8], other: &[u8], n: u8) -> [u8; 1
     at
 }
 
-// Whether the own step j may stand in a chain at t, by a table of distances.
-fn is_open(related: &[u64], own: &[u8], distances: &[u8], n: u8, t: usize, j: usize) -> bool
-    requires { ⌜ j < 256 ⌝ }
-    ensures { λ r. ⌜ r ≡ isOpen (sideBy (now (related .entry)) (now (own .entry)) (now (distances .entry)) n t) t j ⌝ }
+// ---- chains
+
+// Whether our step j leaves a state below 64 and may stand in a chain at t, by a table of distances.
+fn is_open(ours: &Side, theirs: &Side, distances: &[u8], t: usize, j: usize) -> bool
+    requires { ⌜ (j < 256) × (t < 64) ⌝ }
+    ensures { λ r. ⌜ r ≡ isOpen (systemIn (now (ours .entry))) (openBy (viewIn (now (ours .entry)) (now (theirs .entry))) (now (distances .entry)) t) j ⌝ }
 {
-    let from = tables::from(own, j);
-    let to = tables::to(own, j);
-    if 64 <= from {
+    let leaves = from(ours, j);
+    let enters = to(ours, j);
+    let n = states(theirs);
+    if Head::MAX_STATES <= leaves {
         return false;
     }
-    let states = word(related, to);
-    if states.has(t) {
-        return wide(n) <= byte(distances, j * 64 + t);
+    let to_states = related(ours, enters);
+    if to_states.has(t) {
+        return n <= byte(distances, j * Head::MAX_STATES + t);
     }
     false
 }
 
-// The own steps that may stand in a chain at t.
-fn open_steps(related: &[u64], own: &[u8], distances: &[u8], n: u8, t: usize) -> Kept
-    ensures { λ r. ⌜ Open (sideBy (now (related .entry)) (now (own .entry)) (now (distances .entry)) n t) t (stepCount (now (own .entry))) (r .steps) (r .count) ⌝ }
+// Our steps that may stand in a chain at t.
+fn open_steps(ours: &Side, theirs: &Side, distances: &[u8], t: usize) -> Kept
+    requires { ⌜ t < 64 ⌝ }
+    ensures { λ r. ⌜ Open (systemIn (now (ours .entry))) (openBy (viewIn (now (ours .entry)) (now (theirs .entry))) (now (distances .entry)) t)
+        (systemIn (now (ours .entry)) .steps) (r .from) (r .to) (r .count) ⌝ }
 {
-    let m = step_count(own);
-    let mut steps = [0u8; 512];
+    let m = step_count(ours);
+    let mut leaves = [0u8; Head::MAX_STEPS];
+    let mut enters = [0u8; Head::MAX_STEPS];
     let mut count: usize = 0;
     let mut j: usize = 0;
     while j < m {
-        if is_open(related, own, distances, n, t, j) {
-            steps[count * 2] = own[j * 2];
-            steps[count * 2 + 1] = own[j * 2 + 1];
+        if is_open(ours, theirs, distances, t, j) {
+            leaves[count] = from(ours, j) as u8;
+            enters[count] = to(ours, j) as u8;
             count += 1;
         }
         j += 1;
     }
-    Kept { steps, count }
+    Kept {
+        from: leaves,
+        to: enters,
+        count,
+    }
 }
 
 // One round: for each state one more than the greatest length over its next states, and 0 where no step leaves it.
-fn lengthen(steps: &[u8], before: Lengths) -> Lengths
-    requires { ⌜ Ends (now steps) ⌝ }
+fn lengthen(
+    from: &[u8; Head::MAX_STEPS],
+    to: &[u8; Head::MAX_STEPS],
+    count: usize,
+    before: Lengths,
+) -> Lengths
+    requires { ⌜ Ends (now from) (now to) count ⌝ }
     requires { ⌜ ((i : ℕ) → getD (before .at) i 0 < 255) ⌝ }
-    ensures { λ r. ⌜ r .at ≡ tabulate 64 (longest (now (steps .entry)) (λ u. getD (before .at) u 0) (stepCount (now (steps .entry)))) ⌝ }
+    ensures { λ r. ⌜ r .at ≡ tabulate 64 (longest (keptSystem (now (from .entry)) (now (to .entry)) count) every (λ u. getD (before .at) u 0) count) ⌝ }
 {
-    let m = step_count(steps);
-    let mut next = Lengths { at: [0; 64] };
+    let mut next = Lengths {
+        at: [0; Head::MAX_STATES],
+    };
     let mut j: usize = 0;
-    while j < m {
-        let x = wide(steps[j * 2]);
-        let y = wide(steps[j * 2 + 1]);
+    while j < count {
+        let x = wide(from[j]);
+        let y = wide(to[j]);
         let more = before.at[y] + 1;
         if next.at[x] < more {
             next.at[x] = more;
@@ -221,40 +239,62 @@ fn lengthen(steps: &[u8], before: Lengths) -> Lengths
 }
 
 // The most steps in a chain of these steps, of at most k, for all states together.
-fn chain_lengths(steps: &[u8], k: u8) -> Lengths
-    requires { ⌜ Ends (now steps) ⌝ }
-    ensures { λ r. ⌜ r .at ≡ tabulate 64 (chainLength (openSide (now (steps .entry))) 0 k) ⌝ }
+fn chain_lengths(
+    from: &[u8; Head::MAX_STEPS],
+    to: &[u8; Head::MAX_STEPS],
+    count: usize,
+    k: u8,
+) -> Lengths
+    requires { ⌜ Ends (now from) (now to) count ⌝ }
+    ensures { λ r. ⌜ r .at ≡ tabulate 64 (chainAlong (keptSystem (now (from .entry)) (now (to .entry)) count) every k) ⌝ }
 {
     if k == 0 {
-        return Lengths { at: [0; 64] };
+        return Lengths {
+            at: [0; Head::MAX_STATES],
+        };
     }
-    let before = chain_lengths(steps, k - 1);
-    lengthen(steps, before)
+    let before = chain_lengths(from, to, count, k - 1);
+    lengthen(from, to, count, before)
 }
 
-// The most steps in a chain at t, of at most k, for all own states together, by a table of distances. The other side has n states.
-fn chains_at(related: &[u64], own: &[u8], distances: &[u8], n: u8, t: usize, k: u8) -> Lengths
-    ensures { λ r. ⌜ r .at ≡ tabulate 64 (chainBy (now (related .entry)) (now (own .entry)) (now (distances .entry)) n k t) ⌝ }
+// The most steps in a chain at t, of at most as many as we have states, for all our states together, by a table of distances.
+fn chains_at(ours: &Side, theirs: &Side, distances: &[u8], t: usize) -> Lengths
+    requires { ⌜ t < 64 ⌝ }
+    ensures { λ r. ⌜ r .at ≡ tabulate 64 (chainBy (viewIn (now (ours .entry)) (now (theirs .entry))) (now (distances .entry)) t) ⌝ }
 {
-    let kept = open_steps(related, own, distances, n, t);
-    let steps = kept.steps;
-    let e = kept.count * 2;
-    chain_lengths(&steps[0..e], k)
+    let kept = open_steps(ours, theirs, distances, t);
+    let leaves = kept.from;
+    let enters = kept.to;
+    chain_lengths(&leaves, &enters, kept.count, states(ours) as u8)
 }
 
-// The most steps in a chain, of at most k, at each state of the other side, row by row: that at t from s stands at 64 t + s.
-pub fn all_chains(related: &[u64], own: &[u8], distances: &[u8], n: u8, k: u8) -> [u8; 4096]
-    ensures { λ r. ⌜ r ≡ grid 64 64 (chainBy (now (related .entry)) (now (own .entry)) (now (distances .entry)) n k) ⌝ }
+// The most steps in a chain at each of their states, row by row, by a table of distances.
+fn all_chains(
+    ours: &Side,
+    theirs: &Side,
+    distances: &[u8],
+) -> [u8; Head::MAX_STATES * Head::MAX_STATES]
+    ensures { λ r. ⌜ r ≡ grid 64 64 (chainBy (viewIn (now (ours .entry)) (now (theirs .entry))) (now (distances .entry))) ⌝ }
 {
-    let mut at = [0u8; 4096];
+    let mut at = [0u8; Head::MAX_STATES * Head::MAX_STATES];
     let mut a: usize = 0;
     let mut t: usize = 0;
-    while t < 64 {
-        let e = a + 64;
-        let row = chains_at(related, own, distances, n, t, k);
+    while t < Head::MAX_STATES {
+        let e = a + Head::MAX_STATES;
+        let row = chains_at(ours, theirs, distances, t);
         put(row, &mut at[a..e]);
         a = e;
         t += 1;
     }
     at
+}
+
+// The match distances of our steps, and the lengths of our chains of unmatched steps.
+pub fn measure(ours: &Side, theirs: &Side) -> Measured
+    ensures distances { λ r. ⌜ r .distances ≡ distanceTable (viewIn (now (ours .entry)) (now (theirs .entry))) ⌝ }
+    ensures chains { λ r. ⌜ r .chains ≡ chainTable (viewIn (now (ours .entry)) (now (theirs .entry))) ⌝ }
+{
+    let distances = all_distances(ours, theirs);
+    let chains = all_chains(ours, theirs, &distances);
+    Measured { distances, chains }
 }

@@ -10,7 +10,22 @@ use native.Mathlib.Omega.{arith}
 use native.Mathlib.Decide.{ℕ-discrete}
 use lib.Arith.{digits-div, digits-mod, digits-lt}
 use lib.ListN.{length, take, drop, getD, set, length-append, length-drop, length-set, drop-of-length-le, List·getD-append, List·getD-eq-default}
-use lib.Seq.{getD-set-same, getD-set-other, getD-at, getD-append-add, ext-getD, set-at, drop-cons, take-at, drop-at, drop-length, take-nil, take-all, getD-take, getD-drop}
+use lib.Seq.{
+  getD-set-same,
+  getD-set-other,
+  getD-at,
+  getD-append-add,
+  ext-getD,
+  set-at,
+  drop-cons,
+  take-at,
+  drop-at,
+  drop-length,
+  take-nil,
+  take-all,
+  getD-take,
+  getD-drop,
+}
 use borrow.Author.Count.{below-more}
 use borrow.Author.Tests.{le-leb, lt-leb}
 use borrow.Rule.Slice.PartMut.{putMid, midOf, post-is, mid-len}
@@ -58,7 +73,11 @@ tabulate-set n i v f g h e other =
     λ s l.
     let k : s < n = rw (length-set, length-tabulate) at l in
     elim (ℕ-discrete s i) [
-      | yes q ↦ ap (λ (x : ℕ). getD (set (tabulate n f) i v) x 0) q ∙ getD-set-same (tabulate n f) i v 0 (rw length-tabulate h) ∙ e ∙ ap g (sym q) ∙ sym (getD-tabulate n s g k)
+      | yes q ↦
+          ap (λ (x : ℕ). getD (set (tabulate n f) i v) x 0) q
+          ∙ getD-set-same (tabulate n f) i v 0 (rw length-tabulate h)
+          ∙ e ∙ ap g (sym q)
+          ∙ sym (getD-tabulate n s g k)
       | no q ↦ getD-set-other (tabulate n f) i s v 0 q ∙ getD-tabulate n s f k ∙ other s k q ∙ sym (getD-tabulate n s g k)
     ]
 

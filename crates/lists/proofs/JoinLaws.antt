@@ -92,7 +92,9 @@ module _ {A : Type 0} where
   unfolding joinFrom joinBelow
   from-skip zero n f h = refl
   from-skip (suc a) zero f h = refl
-  from-skip (suc a) (suc n) f h = ap (λ (l : List A). l ++ joinBelow n (λ i. f (suc i))) (h 0 (suc-le-suc zero-le)) ∙ from-skip a n (λ i. f (suc i)) (λ i l. h (suc i) (suc-le-suc l))
+  from-skip (suc a) (suc n) f h =
+      ap (λ (l : List A). l ++ joinBelow n (λ i. f (suc i))) (h 0 (suc-le-suc zero-le))
+      ∙ from-skip a n (λ i. f (suc i)) (λ i l. h (suc i) (suc-le-suc l))
 
   -- k is the next index with something
   pub from-next : (a k n : ℕ) (f : ℕ → List A) → a ≤ k → k < n → ((i : ℕ) → a ≤ i → i < k → f i ≡ []) → joinFrom a n f ≡ f k ++ joinFrom (suc k) n f
@@ -146,4 +148,6 @@ pub join-shrink : {A : Type 0} (n m : ℕ) (f : ℕ → List A) → n ≤ m → 
 unfolding joinBelow
 join-shrink zero m f h none = join-none m f (λ i l. none i zero-le l)
 join-shrink (suc n) zero f h none = absurd (not-suc-le-zero h)
-join-shrink (suc n) (suc m) f h none = ap (λ (l : List _). f 0 ++ l) (join-shrink n m (λ i. f (suc i)) (le-of-suc-le-suc h) (λ i b l. none (suc i) (suc-le-suc b) (suc-le-suc l)))
+join-shrink (suc n) (suc m) f h none =
+    ap (λ (l : List _). f 0 ++ l)
+    (join-shrink n m (λ i. f (suc i)) (le-of-suc-le-suc h) (λ i b l. none (suc i) (suc-le-suc b) (suc-le-suc l)))

@@ -38,7 +38,9 @@ length-bytes (suc k) x = length-append (bigBytes k (x / 256)) _ ∙ ap (λ (n : 
 -- the bytes of a number read back, with whatever stands after them
 pub bytes-back : (k x : ℕ) (l : List ℕ) → x < 256 ^ k → bigEndian (bigBytes k x ++ l) 0 k ≡ x
 unfolding bigEndian bigBytes
-bytes-back k x l h = big-cong (bigBytes k x ++ l) (bigBytes k x) 0 0 k (λ i b. List·getD-append (bigBytes k x) l 0 (0 + i) (rw (length-bytes k x) (omega arith))) ∙ alone k x h
+bytes-back k x l h =
+    big-cong (bigBytes k x ++ l) (bigBytes k x) 0 0 k (λ i b. List·getD-append (bigBytes k x) l 0 (0 + i) (rw (length-bytes k x) (omega arith)))
+    ∙ alone k x h
   where
     alone : (k x : ℕ) → x < 256 ^ k → bigEndian (bigBytes k x) 0 k ≡ x
     alone zero x h = sym (lt-one h)

@@ -13,14 +13,15 @@ use Rattle.answers.specs.Causes.{NoCause, Numbered, Allows}
 use Rattle.answers.specs.Verdicts.{goOn, refusedWith}
 use Rattle.answers.proofs.DecideLaws.{Decides, decides-as, decides-stable, test-decides, eqb-decides, not-decides, and-decides, or-decides, any-decides}
 use Rattle.answers.proofs.VerdictLaws.{Decided, Anything, decided-none, decided-as, decided-unless}
-use Rattle.bisimulation.specs.Systems.{System, View, Ranks, WellFormed, flip, swap, LabelsEqual}
+use Rattle.bisimulation.specs.Systems.{System, View, Ranks, WellFormed, flip, swap, stepsFrom, LabelsEqual}
 use Rattle.bisimulation.specs.Clauses.{Meets2a, Meets2b, Meets2c, Meets, EveryObligation}
 use Rattle.bisimulation.specs.Judge.{is2a, is2b, is2c}
 use Rattle.bisimulation.specs.Triples.{ahead}
 use Rattle.bisimulation.proofs.ClauseLaws.{is2a-e, is2a-i, is2b-e, is2b-i, is2c-e, is2c-i}
 use Rattle.obligations.specs.Obligation.{outcomeOf, isApart, obligationAt}
 use Rattle.obligations.specs.CheckAnswers.{startsAnswer, labelsAnswer}
-use Rattle.obligations.specs.Judging.{stepsFrom, Check, labelsOf, leftStep, rightStep, pairChecks, checks, startsVerdict, Finding, nothing, metBy, stepVerdict, checkVerdict, isObligation}
+use Rattle.obligations.specs.Judging.{Check, labelsOf, leftStep, rightStep, pairChecks, checksBy, checks, isObligation}
+use Rattle.obligations.specs.Judging.{startsVerdict, Finding, nothing, metBy, stepVerdict, checkVerdict}
 use Rattle.obligations.specs.CheckCauses.{startsCauses, Apart, unmetCauses, MetFirstBy, checkCauses, CheckMetBy}
 
 -- ---- what holds of all checks
@@ -43,7 +44,7 @@ pub record OfChecks (v : View) (P : Check → Type 0) : Type 0 where
 
 module _ (v : View) (P : Check → Type 0) where
   pub checks-all : OfChecks v P → All P (checks v)
-  unfolding checks pairChecks
+  unfolding checks checksBy pairChecks
   checks-all o =
       all-join P _ _ λ s ls. all-join P _ _ λ t lt. all-when P (v .related s t) _ λ h. (
         o .labels s t h,
@@ -53,9 +54,11 @@ module _ (v : View) (P : Check → Type 0) where
       )
 
   module _ (w : WellFormed v) (a : All P (checks v)) where
-    pair-all : (s t : ℕ) → T (v .related s t) → All P (pairChecks v s t)
-    unfolding checks
-    pair-all s t h = when-all P (v .related s t) (pairChecks v s t) (join-all P _ _ (join-all P _ _ a s (w .here .related< s t h)) t (w .there .related< t s h)) h
+    pair-all : (s t : ℕ) → T (v .related s t) → All P (pairChecks (stepsFrom (v .own)) (stepsFrom (v .other)) s t)
+    unfolding checks checksBy
+    pair-all s t h =
+        when-all P (v .related s t) (pairChecks (stepsFrom (v .own)) (stepsFrom (v .other)) s t)
+        (join-all P _ _ (join-all P _ _ a s (w .here .related< s t h)) t (w .there .related< t s h)) h
 
     pair-steps : (s t : ℕ) → T (v .related s t) → All P (map (leftStep s t) (stepsFrom (v .own) s)) × All P (map (rightStep s t) (stepsFrom (v .other) t))
     unfolding pairChecks
@@ -75,7 +78,8 @@ module _ (v : View) (P : Check → Type 0) where
 pub starts-decided : (v : View) (start start′ : ℕ) → Decided Anything (startsCauses v start start′) (startsVerdict v start start′)
 unfolding startsVerdict
 starts-decided v start start′ =
-    decided-unless (λ x. x) (v .related start start′) (refusedWith (startsAnswer start start′)) (goOn tt) (not-decides (test-decides (v .related start start′))) refl (decided-none tt)
+    decided-unless (λ x. x) (v .related start start′) (refusedWith (startsAnswer start start′)) (goOn tt)
+    (not-decides (test-decides (v .related start start′))) refl (decided-none tt)
 
 -- ---- one check
 
@@ -84,7 +88,9 @@ unfolding isApart ahead
 apart-decides v j t =
     decides-as
     (and-decides (not-decides (and-decides (test-decides (v .own .silent j)) (test-decides (v .related (v .own .to j) t))))
-    (not-decides (any-decides (v .other .steps) (λ k. and-decides (and-decides (eqb-decides (v .other .from k) t) (test-decides (v .other .silent k))) (test-decides (v .related (v .own .from j) (v .other .to k)))))))
+    (not-decides (any-decides (v .other .steps) (λ k.
+    and-decides (and-decides (eqb-decides (v .other .from k) t) (test-decides (v .other .silent k)))
+    (test-decides (v .related (v .own .from j) (v .other .to k)))))))
     (λ p. (p .0, λ k l e q h. p .1 (k, l, ((e, q), h)))) (λ p. (p .0, λ q. p .1 (q .0) (q .1) (q .2 .0 .0) (q .2 .0 .1) (q .2 .1)))
 
 step-decides : (v : View) (j t : ℕ) → Decides (is2a v j t) (Meets2a v j t)
@@ -111,7 +117,8 @@ module _ (v : View) (r : Ranks) (j t side left right : ℕ) where
       → Decided (FirstBy v r j t) (unmetCauses v r j t side left right) (stepVerdict side left right j (outcomeOf a b c d))
   unfolding outcomeOf
   outcome-decided true b c d p q s x = record { by = (p .sound tt, (λ n. n .0 (inl (p .sound tt)), (λ n. n (inl (p .sound tt)), tt))) }
-  outcome-decided false true c d p q s x = record { by = ((p .complete, q .sound tt), (λ n. n .0 (inr (inl (q .sound tt))), (λ n. n (inr (inl (q .sound tt))), tt))) }
+  outcome-decided false true c d p q s x =
+      record { by = ((p .complete, q .sound tt), (λ n. n .0 (inr (inl (q .sound tt))), (λ n. n (inr (inl (q .sound tt))), tt))) }
   outcome-decided false false true d p q s x =
       record { by = ((p .complete, q .complete, s .sound tt), (λ n. n .0 (inr (inr (s .sound tt))), (λ n. n (inr (inr (s .sound tt))), tt))) }
   outcome-decided false false false true p q s x = record { by = inl ((⊎-elim (p .complete) (⊎-elim (q .complete) (s .complete)), x .sound tt), refl) }
@@ -121,7 +128,8 @@ module _ (v : View) (r : Ranks) (j t side left right : ℕ) where
   step-decided : Decided (FirstBy v r j t) (unmetCauses v r j t side left right) (stepVerdict side left right j (obligationAt v r j t))
   unfolding obligationAt
   step-decided =
-      outcome-decided (is2a v j t) (is2b v r j t) (is2c v r j t) (isApart v j t) (step-decides v j t) (stutter-decides v r j t) (match-decides v r j t) (apart-decides v j t)
+      outcome-decided (is2a v j t) (is2b v r j t) (is2c v r j t) (isApart v j t)
+      (step-decides v j t) (stutter-decides v r j t) (match-decides v r j t) (apart-decides v j t)
 
 module _ (v : View) (r : Ranks) where
   -- the judge's verdict on a check is decided by its causes

@@ -3,7 +3,7 @@ use Prim.Native.Nat.{ℕ, _<_}
 use mathlib.Core.Path.{_≡_}
 use mathlib.Core.List.{List, [], _∷_}
 use lib.Dec.{T}
-use Rattle.bisimulation.specs.Systems.{View, Ranks, flip, swap}
+use Rattle.bisimulation.specs.Systems.{View, Ranks, flip, swap, Stays}
 use Rattle.bisimulation.specs.Clauses.{Meets2a, Meets2b, Meets2c, Meets}
 use Rattle.answers.specs.Causes.{Cause, _gives_}
 use Rattle.obligations.specs.CheckAnswers.{startsAnswer, labelsAnswer, stepAnswer}
@@ -18,10 +18,6 @@ startsCauses v start start′ = (¬ T (v .related start start′)) gives startsA
 -- 17: the labels differ.
 abbrev pub labelCauses : View → ℕ → ℕ → List Cause
 labelCauses v s t = (¬ (v .own .label s ≡ v .other .label t)) gives labelsAnswer s t ∷ []
-
--- Of the own step j at t: u, t are related. Only a silent step counts, where steps have keys.
-abbrev pub Stays : View → ℕ → ℕ → Type 0
-Stays v j t = T (v .own .silent j) × T (v .related (v .own .to j) t)
 
 -- Of the own step j at t: u, t are unrelated, and no step from t goes to a state related to s. Only silent steps count, where steps have keys.
 abbrev pub Apart : View → ℕ → ℕ → Type 0

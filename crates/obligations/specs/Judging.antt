@@ -1,11 +1,11 @@
 -- The judging order after the starts (document 01, Duties and clauses): pairs, s rising, then t rising; in a pair the marks, then left steps from s in
 -- table order, then right steps from t. And what becomes of each check, for the judge.
 use Prim.Native.Nat.{ℕ, _+_}
-use mathlib.Core.Bool.{cond}
+use mathlib.Core.Bool.{Bool, cond}
 use mathlib.Core.List.{List, [], _∷_, _++_, map}
 use lib.Dec.{eqb}
 use Rattle.lists.specs.Lists.{joinBelow}
-use Rattle.bisimulation.specs.Systems.{System, View, Ranks, flip, swap}
+use Rattle.bisimulation.specs.Systems.{View, Ranks, flip, swap, stepsFrom}
 use Rattle.answers.specs.Verdicts.{Verdict, goOn, refusedWith, passIf}
 use Rattle.obligations.specs.Obligation.{failureNumber, obligationAt}
 use Rattle.obligations.specs.CheckAnswers.{startsAnswer, labelsAnswer, stepAnswer}
@@ -13,23 +13,23 @@ use Rattle.obligations.specs.declared.Clause.{Clause}
 use Rattle.obligations.specs.declared.Outcome.{Outcome}
 use Rattle.obligations.specs.declared.Outcome.the-variants.{Met, Failed}
 
--- The steps from s, in table order.
-unfoldable pub stepsFrom : System → ℕ → List ℕ
-stepsFrom S s = joinBelow (S .steps) (λ j. cond (eqb (S .from j) s) (j ∷ []) [])
-
 -- One thing that is looked at: the labels of the pair s, t; the obligation of left step j; the obligation of right step j.
 pub data Check : Type 0 where
   labelsOf : ℕ → ℕ → Check
   leftStep : ℕ → ℕ → ℕ → Check
   rightStep : ℕ → ℕ → ℕ → Check
 
--- The checks of the pair s, t.
-unfoldable pub pairChecks : View → ℕ → ℕ → List Check
-pairChecks v s t = labelsOf s t ∷ map (leftStep s t) (stepsFrom (v .own) s) ++ map (rightStep s t) (stepsFrom (v .other) t)
+-- The checks of the pair s, t, where `left s` are the left steps from s, and `right t` the right steps from t, in their order.
+unfoldable pub pairChecks : (left right : ℕ → List ℕ) → ℕ → ℕ → List Check
+pairChecks left right s t = labelsOf s t ∷ map (leftStep s t) (left s) ++ map (rightStep s t) (right t)
 
--- All checks of the related pairs, in judging order.
+-- The checks of the related pairs, for s below n and t below n′.
+unfoldable pub checksBy : (n n′ : ℕ) → (related : ℕ → ℕ → Bool) → (left right : ℕ → List ℕ) → List Check
+checksBy n n′ related left right = joinBelow n (λ s. joinBelow n′ (λ t. cond (related s t) (pairChecks left right s t) []))
+
+-- All checks of a view, in judging order.
 unfoldable pub checks : View → List Check
-checks v = joinBelow (v .own .states) (λ s. joinBelow (v .other .states) (λ t. cond (v .related s t) (pairChecks v s t) []))
+checks v = checksBy (v .own .states) (v .other .states) (v .related) (stepsFrom (v .own)) (stepsFrom (v .other))
 
 -- The starts are tested before all checks: 16 where they are unrelated.
 unfoldable pub startsVerdict : View → ℕ → ℕ → Verdict (Unit {0})

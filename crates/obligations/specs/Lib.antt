@@ -2,3 +2,4 @@ pub mod Obligation
 pub mod CheckAnswers
 pub mod Judging
 pub mod CheckCauses
+pub mod OnSides

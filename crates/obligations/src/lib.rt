@@ -1,13 +1,24 @@
 // One obligation, document 01's duty: an own step from s to u, at a state t of the other side that is related to s. It is tested on words, so it
-// costs a few instructions. Nothing here knows which side is which, or how steps are told apart: the caller hands over the sets of states.
+// costs a few instructions. The test on words does not know which side is which, or how steps are told apart: it is handed the sets of states. On two
+// sides these are one read each, and so is the test of the starts.
+use answers::Answer;
+use certificates::Sizes;
 use lists::byte;
+use lists::part_of;
+use sides::Side;
+use sides::entered;
+use sides::from;
+use sides::initial;
+use sides::related;
+use sides::to;
+use tables::Head;
 use words::Row;
 ghost use mathlib.Core.Path.{_≡_};
-ghost use lib.Bits.{bitAnd};
 ghost use lib.Dec.{ltb};
 ghost use mathlib.Core.Bool.{_&&_};
-ghost use Rattle.words.specs.Bits.{firstBit};
-ghost use Rattle.obligations.specs.Obligation.{firstFalling, staysAt, obligationOf, clauseNumber, failureNumber};
+ghost use Rattle.obligations.specs.Obligation.{firstFalling, staysAt, withoutStep, clauseNumber, failureNumber};
+ghost use Rattle.obligations.specs.CheckAnswers.{placeAnswer};
+ghost use Rattle.obligations.specs.OnSides.{startsIn, asChecked, leftRun, rightRun, stutterAt, matchRow, obligationIn};
 
 // The clause that meets an obligation: 2a, 2b or 2c.
 pub enum Clause {
@@ -29,15 +40,36 @@ pub enum Outcome {
 }
 
 // What an obligation looks at.
-pub struct Facing {
+struct Facing {
     // The states of the other side that are related to s, and to u.
-    pub from: Row,
-    pub to: Row,
+    from: Row,
+    to: Row,
     // The states that steps from t enter: steps that answer this one, and silent steps.
-    pub answering: Row,
-    pub silent: Row,
+    serving: Row,
+    silent: Row,
     // Whether the step is silent.
-    pub quiet: bool,
+    quiet: bool,
+}
+
+// Where the A ranks and the C ranks of a side begin in a certificate, and how many states the other side has. The widths are such that no sum of them
+// is too large.
+pub struct Run {
+    pub stutter: u32,
+    pub matches: u32,
+    pub states: u8,
+}
+
+// A related pair, seen from a side: 0 left, 1 right.
+pub struct Place {
+    pub side: usize,
+    pub own: usize,
+    pub other: usize,
+}
+
+// Whether a test passes, or what it is refused with.
+pub enum Checked {
+    Passed,
+    Refused(Answer),
 }
 
 impl Clause {
@@ -67,14 +99,61 @@ impl Failure {
     }
 }
 
-// The smallest state by which 2a holds, and 64 where it does not.
-fn answering_state(facing: Facing) -> usize
-    ensures { λ r. ⌜ r ≡ firstBit (bitAnd (facing .answering .0) (facing .to .0)) ⌝ }
-{
-    let answering = facing.answering;
-    let both = answering.intersect(facing.to);
-    both.first()
+impl Place {
+    // The answer with this code that names step j at the place.
+    pub fn step_answer(self, code: usize, j: usize) -> Answer
+        ensures { λ r. ⌜ r ≡ placeAnswer self code j ⌝ }
+    {
+        if self.side == 0 {
+            return Answer {
+                code,
+                file: 2,
+                a: 0,
+                b: self.own,
+                c: self.other,
+                d: j,
+            };
+        }
+        Answer {
+            code,
+            file: 2,
+            a: self.side,
+            b: self.other,
+            c: self.own,
+            d: j,
+        }
+    }
 }
+
+impl Run {
+    // The left side's runs.
+    pub fn left(sizes: Sizes) -> Run
+        ensures { λ r. ⌜ r ≡ leftRun sizes ⌝ }
+    {
+        // Read as a number, which tells that the sizes are small, and so that both places fit.
+        let states = sizes.n2 as usize;
+        Run {
+            stutter: sizes.al_at() as u32,
+            matches: sizes.cl_at() as u32,
+            states: states as u8,
+        }
+    }
+
+    // The right side's runs.
+    pub fn right(sizes: Sizes) -> Run
+        ensures { λ r. ⌜ r ≡ rightRun sizes ⌝ }
+    {
+        // Read as a number, which tells that the sizes are small, and so that both places fit.
+        let states = sizes.n1 as usize;
+        Run {
+            stutter: sizes.ar_at() as u32,
+            matches: sizes.cr_at() as u32,
+            states: states as u8,
+        }
+    }
+}
+
+// ---- on words
 
 // The smallest state of the set at which the rank is below that at t, and 64 where there is none.
 fn falling_state(set: Row, ranks: &[u8], t: usize) -> usize
@@ -83,14 +162,14 @@ fn falling_state(set: Row, ranks: &[u8], t: usize) -> usize
     let here = byte(ranks, t);
     let mut left = set;
     let mut v = left.first();
-    while v < 64 {
+    while v < Head::MAX_STATES {
         if byte(ranks, v) < here {
             return v;
         }
         left = left.remove(v);
         v = left.first();
     }
-    64
+    Head::MAX_STATES
 }
 
 // Whether the step stays inside a block: it is silent, and u and t are related.
@@ -105,7 +184,7 @@ fn stays(facing: Facing, t: usize) -> bool
 }
 
 // Whether 2b holds, for the A ranks of (s, t) before and (u, t) after the step.
-fn stutters(facing: Facing, t: usize, before: usize, after: usize) -> bool
+fn meets_2b(facing: Facing, t: usize, before: usize, after: usize) -> bool
     ensures { λ r. ⌜ r ≡ (staysAt facing t && ltb after before) ⌝ }
 {
     if stays(facing, t) {
@@ -114,27 +193,109 @@ fn stutters(facing: Facing, t: usize, before: usize, after: usize) -> bool
     false
 }
 
-// The outcome: the first of 2a, 2b and 2c that holds, else the failure. `before` and `after` are the A ranks of (s, t) and of (u, t), and `ranks`
-// has the C ranks of this step at each state of the other side.
-pub fn obligation(facing: Facing, t: usize, before: usize, after: usize, ranks: &[u8]) -> Outcome
-    ensures { λ r. ⌜ r ≡ obligationOf facing t before after (now (ranks .entry)) ⌝ }
+// The outcome where 2a does not hold: the first of 2b and 2c that holds, else the failure. `before` and `after` are the A ranks of (s, t) and of
+// (u, t), and `ranks` has the C ranks of this step at each state of the other side.
+fn without_step(facing: Facing, t: usize, before: usize, after: usize, ranks: &[u8]) -> Outcome
+    ensures { λ r. ⌜ r ≡ withoutStep facing t before after (now (ranks .entry)) ⌝ }
 {
-    if answering_state(facing) < 64 {
-        return Outcome::Met(Clause::Step);
-    }
-    if stutters(facing, t, before, after) {
+    if meets_2b(facing, t, before, after) {
         return Outcome::Met(Clause::Stutter);
     }
     let silent = facing.silent;
     let ahead = silent.intersect(facing.from);
-    if falling_state(ahead, ranks, t) < 64 {
+    if falling_state(ahead, ranks, t) < Head::MAX_STATES {
         return Outcome::Met(Clause::Match);
     }
     if stays(facing, t) {
         return Outcome::Failed(Failure::Rank);
     }
-    if ahead.first() < 64 {
+    if ahead.first() < Head::MAX_STATES {
         return Outcome::Failed(Failure::Rank);
     }
     Outcome::Failed(Failure::Apart)
+}
+
+// ---- on two sides
+
+// The A rank of s at t; a state of 64 or more has rank 0.
+fn stutter_at(certificate: &[u8], run: Run, s: usize, t: usize) -> usize
+    ensures { λ r. ⌜ r ≡ stutterAt (now (certificate .entry)) run s t ⌝ }
+{
+    if Head::MAX_STATES <= s {
+        return 0;
+    }
+    if Head::MAX_STATES <= t {
+        return 0;
+    }
+    let at = run.stutter as usize;
+    let n = run.states as usize;
+    byte(certificate, at + (s * n + t))
+}
+
+// The certificate from the C ranks of step j on; a step of 256 or more has none.
+fn match_row(certificate: &[u8], run: Run, j: usize) -> &[u8]
+    ensures { λ r. ⌜ now r ≡ matchRow (now (certificate .entry)) run j ⌝ }
+{
+    let end = certificate.len();
+    if Head::MAX_STEPS <= j {
+        return part_of(certificate, end, end);
+    }
+    let at = run.matches as usize;
+    let n = run.states as usize;
+    part_of(certificate, at + j * n, end)
+}
+
+// The outcome of the obligation of our step j at t, with the ranks that stand in the certificate.
+pub fn obligation_at(
+    ours: &Side,
+    theirs: &Side,
+    certificate: &[u8],
+    run: Run,
+    j: usize,
+    t: usize,
+) -> Outcome
+    ensures { λ r. ⌜ r ≡ obligationIn (now (ours .entry)) (now (theirs .entry)) (now (certificate .entry)) run j t ⌝ }
+{
+    let u = to(ours, j);
+    let target = related(ours, u);
+    let entering = entered(theirs, t);
+    // Most obligations are met by 2a, which looks at no rank.
+    let met = entering.intersect(target);
+    if met.first() < Head::MAX_STATES {
+        return Outcome::Met(Clause::Step);
+    }
+    let s = from(ours, j);
+    let facing = Facing {
+        from: related(ours, s),
+        to: target,
+        serving: entering,
+        silent: entering,
+        quiet: true,
+    };
+    let before = stutter_at(certificate, run, s, t);
+    let after = stutter_at(certificate, run, u, t);
+    let ranks = match_row(certificate, run, j);
+    without_step(facing, t, before, after, ranks)
+}
+
+// Whether the starts are related: 16 where they are not. The start of a side is its smallest initial state.
+pub fn check_starts(ours: &Side, theirs: &Side) -> Checked
+    ensures { λ r. ⌜ r ≡ asChecked (startsIn (now (ours .entry)) (now (theirs .entry))) ⌝ }
+{
+    let first = initial(ours);
+    let second = initial(theirs);
+    let s = first.first();
+    let t = second.first();
+    let states = related(ours, s);
+    if states.has(t) {
+        return Checked::Passed;
+    }
+    Checked::Refused(Answer {
+        code: 16,
+        file: 2,
+        a: s,
+        b: t,
+        c: 0,
+        d: 0,
+    })
 }

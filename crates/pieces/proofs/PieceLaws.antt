@@ -56,7 +56,8 @@ length-at-stays s t zero h = refl
 length-at-stays s t (suc i) h =
     let e = length-at-stays s t i (omega arith) in
     ap (λ (a : ℕ). a + 2 + bigEndian (s ++ t) a 2) e
-    ∙ ap (λ (n : ℕ). lengthAt s i + 2 + n) (big-cong (s ++ t) s (lengthAt s i) (lengthAt s i) 2 (λ k l. List·getD-append s t 0 (lengthAt s i + k) (omega arith)))
+    ∙ ap (λ (n : ℕ). lengthAt s i + 2 + n)
+    (big-cong (s ++ t) s (lengthAt s i) (lengthAt s i) 2 (λ k l. List·getD-append s t 0 (lengthAt s i + k) (omega arith)))
 
 byte-rises : (s t : List ℕ) (i : ℕ) → byteAt s i ≤ byteAt (s ++ t) i
 byte-rises s t i = elim (decLt i (length s)) [
@@ -156,7 +157,8 @@ call-came {r = pos k} a e = record { call = a; not-negative = tt; some = leb-fal
 call-came {r = negsuc k} a e = absurd (true≢false e)
 
 -- one call of `read`: what it put follows what had been read, in a list where both have their places
-pub reading-more : {s t : List ℕ} {r : ℕ} (n : ℕ) (later : List ℕ) → length s ≡ n → Reading s → ReadCall (missingOf s) (pos r) t → Reading (take (n + r) (s ++ (t ++ later)))
+pub reading-more : {s t : List ℕ} {r : ℕ} (n : ℕ) (later : List ℕ)
+    → length s ≡ n → Reading s → ReadCall (missingOf s) (pos r) t → Reading (take (n + r) (s ++ (t ++ later)))
 reading-more {s} {t} {r} n later e w a =
     let h = call-within a in
     let l = call-length a in
@@ -192,7 +194,9 @@ length-at-sent a s h zero =
     omega arith
 length-at-sent a s h (suc i) =
     let e = length-at-sent a s h i in
-    let n : bigEndian (sent a ++ s) (length (sent a) + lengthAt s i) 2 ≡ bigEndian s (lengthAt s i) 2 = big-cong (sent a ++ s) s (length (sent a) + lengthAt s i) (lengthAt s i) 2 (λ k l. rw add-assoc (getD-append-add (sent a) s (lengthAt s i + k) 0)) in
+    let n : bigEndian (sent a ++ s) (length (sent a) + lengthAt s i) 2 ≡ bigEndian s (lengthAt s i) 2 =
+    big-cong (sent a ++ s) s (length (sent a) + lengthAt s i) (lengthAt s i) 2
+    (λ k l. rw add-assoc (getD-append-add (sent a) s (lengthAt s i + k) 0)) in
     ap (λ (x : ℕ). x + 2 + bigEndian (sent a ++ s) x 2) e ∙ omega arith
 
 -- the first piece is the one sent first, and the others are those of what follows it
@@ -229,7 +233,8 @@ sent-received a b c later ha hb hc =
     }
 
 -- Of such an input exactly the three pieces and their lengths are wanted.
-pub sent-wanted : (a b c later : List ℕ) → length a < 65536 → length b < 65536 → length c < 65536 → wanted (sent a ++ (sent b ++ (sent c ++ later))) ≡ length a + length b + length c + 6
+pub sent-wanted : (a b c later : List ℕ) → length a < 65536 → length b < 65536 → length c < 65536
+    → wanted (sent a ++ (sent b ++ (sent c ++ later))) ≡ length a + length b + length c + 6
 unfolding wanted lengthAt
 sent-wanted a b c later ha hb hc =
     let s = sent c ++ later in

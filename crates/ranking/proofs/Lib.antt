@@ -1,4 +1,4 @@
-pub mod FileMadeLaws
+-- Laws of the maker: what was read, the two sides of it, and what its causes decide.
 pub mod MakeAnswers
-pub mod MakeLaws
+pub mod MakeSidesLaws
 pub mod MakerCauseLaws

@@ -1,15 +1,17 @@
 -- The maker's verdict is decided by its causes: it refuses with the numbers of the first that applies, and goes on where none does. Assumes nothing.
 use Prim.Native.Nat.{ℕ}
-use mathlib.Core.Path.{refl}
+use mathlib.Core.Path.{_≡_, refl, sym, _∙_, subst}
 use mathlib.Core.List.{List, _++_}
 use lib.ListN.{length}
 use Rattle.answers.specs.Numbers.{sixNumbers}
 use Rattle.answers.specs.Causes.{Cause, Numbered}
-use Rattle.answers.specs.Verdicts.{refusedWith, passed}
+use Rattle.answers.specs.Verdicts.{Verdict, refusedWith, _andThen_, passed}
 use Rattle.answers.proofs.CauseLaws.{numbered-append}
 use Rattle.answers.proofs.DecideLaws.{ltb-decides}
-use Rattle.answers.proofs.VerdictLaws.{Decided, Anything, decided-none, decided-test, decided-then}
+use Rattle.answers.proofs.VerdictLaws.{Decided, Anything, decided-none, decided-test, decided-then, then-cong, then-then}
 use Rattle.tables.specs.Table.{startOf}
+use Rattle.table_reader.specs.TableReading.{readTable}
+use Rattle.table_reader.specs.TableAnswers.{tableVerdict}
 use Rattle.table_reader.specs.TableCauses.{tableCauses}
 use Rattle.table_reader.proofs.TableCauseLaws.{formed-good, after-table, table-numbers}
 use Rattle.certificates.specs.Layout.{sizesOf, certificateLength}
@@ -19,24 +21,44 @@ use Rattle.certificate_reader.specs.CertificateAnswers.{relationVerdict}
 use Rattle.certificate_reader.specs.CertificateCauses.{relationCauses}
 use Rattle.certificate_reader.proofs.CertificateCauseLaws.{relation-decided, relation-none-good, relation-numbers}
 use Rattle.examination.specs.ExaminationCauses.{examinationCauses}
-use Rattle.examination.proofs.BytesLaws.{formed}
 use Rattle.examination.proofs.ExamineLaws.{examined-decided, examination-numbers}
-use Rattle.ranking.specs.Make.{roomVerdict, madeVerdict, makeVerdict}
+use Rattle.ranking.specs.Make.{InputsRead, readVerdict, roomVerdict, madeVerdict, makeVerdict}
 use Rattle.ranking.specs.MakerCauses.{roomCauses, makerCauses, makerNumber}
+use Rattle.ranking.proofs.MakeSidesLaws.{formed}
 
 room-decided : (L : ℕ) (output : List ℕ) → Decided Anything (roomCauses L output) (roomVerdict L (length output))
 unfolding roomVerdict
 room-decided L output = decided-test (λ x. x) (refusedWith (sixNumbers 21 3 L)) passed (ltb-decides (length output) L) refl (decided-none tt)
 
 module _ (left right relation output : List ℕ) where
+  -- the room and the examination, after a reading
+  abbrev afterReading : Verdict (Unit {0})
+  afterReading = roomVerdict (certificateLength (sizesOf left right)) (length output) andThen λ x. madeVerdict left right relation
+
   pub maker-decided : AreBytes relation → Decided Anything (makerCauses left right relation output) (makeVerdict left right relation output)
-  unfolding makeVerdict madeVerdict
-  maker-decided bytes =
+  unfolding makeVerdict readVerdict madeVerdict
+  maker-decided bytes = subst (Decided Anything (makerCauses left right relation output)) (sym flat) (
       after-table 0 left λ l. after-table 1 right λ k.
       decided-then (relationVerdict 2 (readRelation (sizesOf left right) relation)) (relation-decided 2 (sizesOf left right) relation) λ z e n.
-      decided-then (roomVerdict (certificateLength (sizesOf left right)) (length output)) (room-decided (certificateLength (sizesOf left right)) output) λ x g m.
-      examined-decided (viewOf left right relation)
-      (formed left right relation (formed-good left l) (formed-good right k) (relation-none-good 2 (sizesOf left right) relation n) bytes) (startOf left) (startOf right)
+      decided-then (roomVerdict (certificateLength (sizesOf left right)) (length output))
+      (room-decided (certificateLength (sizesOf left right)) output) λ x g m.
+      let read : InputsRead left right relation = record {
+        head = _;
+        head′ = _;
+        sizes = _;
+        left-good = formed-good left l;
+        right-good = formed-good right k;
+        relation-good = relation-none-good 2 (sizesOf left right) relation n;
+      } in
+      examined-decided (viewOf left right relation) (formed left right relation read bytes) (startOf left) (startOf right))
+    where
+      -- one step after the other
+      flat : makeVerdict left right relation output
+          ≡ (tableVerdict 0 (readTable left) andThen λ h. tableVerdict 1 (readTable right)
+          andThen λ k. relationVerdict 2 (readRelation (sizesOf left right) relation) andThen λ z. afterReading)
+      flat = then-then (tableVerdict 0 (readTable left)) _ _ ∙ then-cong (tableVerdict 0 (readTable left)) λ h.
+          then-then (tableVerdict 1 (readTable right)) _ _ ∙ then-cong (tableVerdict 1 (readTable right)) λ k.
+          then-then (relationVerdict 2 (readRelation (sizesOf left right) relation)) _ _
 
   -- the causes after each file, and after the room
   abbrev pub afterRoom : List Cause
@@ -56,6 +78,7 @@ module _ (left right relation output : List ℕ) where
   maker-numbers =
       numbered-append makerNumber (tableCauses 0 left) afterLeft (table-numbers makerNumber 0 (tt, (tt, (tt, (tt, (tt, (tt, (tt, (tt, (tt, tt))))))))) left)
       (numbered-append makerNumber (tableCauses 1 right) afterRight (table-numbers makerNumber 1 (tt, (tt, (tt, (tt, (tt, (tt, (tt, (tt, (tt, tt))))))))) right)
-      (numbered-append makerNumber (relationCauses 2 (sizesOf left right) relation) afterRelation (relation-numbers makerNumber 2 (tt, (tt, tt)) (sizesOf left right) relation)
+      (numbered-append makerNumber (relationCauses 2 (sizesOf left right) relation) afterRelation
+      (relation-numbers makerNumber 2 (tt, (tt, tt)) (sizesOf left right) relation)
       (numbered-append makerNumber (roomCauses (certificateLength (sizesOf left right)) output) afterRoom (tt, tt)
       (examination-numbers makerNumber (tt, (tt, (tt, (tt, tt)))) (viewOf left right relation) (startOf left) (startOf right)))))

@@ -1,2 +1,3 @@
 pub mod Make
+pub mod OnSides
 pub mod MakerCauses

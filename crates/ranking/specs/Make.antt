@@ -22,9 +22,12 @@ use Rattle.certificates.specs.CertificateModel.{viewOf}
 use Rattle.certificates.specs.declared.Sizes.{Sizes}
 use Rattle.certificate_reader.specs.CertificateReading.{readRelation}
 use Rattle.certificate_reader.specs.CertificateAnswers.{relationVerdict}
-use Rattle.certificate_reader.specs.declared.RelationRead.the-variants as drawn
+use Rattle.certificate_reader.specs.declared.RelationRead.the-variants as relations
 use Rattle.files.specs.File.{certificateFile}
 use Rattle.examination.specs.Examine.{examined}
+use Rattle.ranking.specs.declared.Heads.{Heads}
+use Rattle.ranking.specs.declared.Inputs.{Inputs}
+use Rattle.ranking.specs.declared.Inputs.the-variants.{Read, Refused}
 
 -- Both tables and the relation are read.
 pub record InputsRead (left right relation : List ℕ) : Type 0 where
@@ -33,7 +36,20 @@ pub record InputsRead (left right relation : List ℕ) : Type 0 where
   pub sizes : Sizes
   pub left-good : readTable left ≡ table.Good head
   pub right-good : readTable right ≡ table.Good head′
-  pub relation-good : readRelation (sizesOf left right) relation ≡ drawn.Good sizes
+  pub relation-good : readRelation (sizesOf left right) relation ≡ relations.Good sizes
+
+-- The verdict on the three files: the headers of the tables, or the first refusal.
+unfoldable pub readVerdict : List ℕ → List ℕ → List ℕ → Verdict Heads
+readVerdict left right relation =
+    tableVerdict 0 (readTable left) andThen λ head.
+    tableVerdict 1 (readTable right) andThen λ head′.
+    relationVerdict 2 (readRelation (sizesOf left right) relation) andThen λ sizes.
+    goOn (record { left = head; right = head′ })
+
+-- The code's enum for it.
+abbrev pub asInputs : Verdict Heads → Inputs
+asInputs (goOn heads) = Read heads
+asInputs (refusedWith answer) = Refused answer
 
 -- 21 where the output has fewer than L bytes.
 unfoldable pub roomVerdict : ℕ → ℕ → Verdict (Unit {0})
@@ -45,9 +61,7 @@ madeVerdict left right relation = examined (viewOf left right relation) (startOf
 
 unfoldable pub makeVerdict : List ℕ → List ℕ → List ℕ → List ℕ → Verdict (Unit {0})
 makeVerdict left right relation output =
-    tableVerdict 0 (readTable left) andThen λ head.
-    tableVerdict 1 (readTable right) andThen λ head′.
-    relationVerdict 2 (readRelation (sizesOf left right) relation) andThen λ sizes.
+    readVerdict left right relation andThen λ heads.
     roomVerdict (certificateLength (sizesOf left right)) (length output) andThen λ x.
     madeVerdict left right relation
 

@@ -1,28 +1,44 @@
-// The maker: for any byte strings and any output its six numbers and every byte of the output. It reads, examines, and only then fills.
+// The maker: for any byte strings and any output its six numbers and every byte of the output. It reads the files, measures and examines the two sides,
+// and only then fills the output.
 use answers::Answer;
 use certificate_reader::RelationRead;
 use certificate_reader::read_relation;
 use certificates::Sizes;
-use examination::Examined;
-use examination::Starts;
 use examination::examine;
-use files::write_certificate;
-use lengths::all_chains;
-use lengths::all_distances;
-use relations::column_words;
-use relations::row_words;
+use files::fill;
+use lengths::measure;
+use obligations::Checked;
+use rank_grids::match_ranks;
+use rank_grids::stutter_ranks;
+use sides::Side;
+use sides::column_words;
+use sides::row_words;
+use sides::side_of;
 use table_reader::TableRead;
 use table_reader::read_table;
 use table_reader::table_answer;
+use tables::Head;
+use tables::labels;
 use tables::steps;
 ghost use mathlib.Core.Path.{_≡_};
-ghost use Prim.Native.Nat.{_≤_};
-ghost use lib.ListN.{length};
-ghost use Rattle.tables.specs.Table.{startOf};
-ghost use Rattle.certificates.specs.Layout.{sizesOf, certificateLength};
-ghost use Rattle.answers.specs.Verdicts.{refusalOf};
+ghost use Rattle.answers.specs.Numbers.{sixNumbers};
+ghost use Rattle.answers.specs.Verdicts.{goOn, answerOf, refusalOf};
+ghost use Rattle.certificates.specs.Layout.{certificateLength};
 ghost use Rattle.certificate_reader.specs.CertificateAnswers.{relationVerdict};
-ghost use Rattle.ranking.specs.Make.{InputsRead, fileFor, madeVerdict, answerAfter, outputAfter, makeAnswer, makeOutput};
+ghost use Rattle.ranking.specs.Make.{readVerdict, asInputs, makeAnswer, makeOutput};
+ghost use Rattle.ranking.specs.OnSides.{examinedOf, ranksMade, filledAfter};
+
+// The headers of the two tables.
+pub struct Heads {
+    pub left: Head,
+    pub right: Head,
+}
+
+// The headers of two tables that are read with a relation between them, or the answer that refuses one of the three.
+pub enum Inputs {
+    Read(Heads),
+    Refused(Answer),
+}
 
 // The answer of a relation's read that is refused; for any other it is blank.
 fn relation_answer(read: RelationRead) -> Answer
@@ -41,52 +57,49 @@ fn relation_answer(read: RelationRead) -> Answer
     refusal.answer(2)
 }
 
-// The answer where both tables and the relation are read and the output has room: what the examination refuses, or the file and its length.
-fn make_read(
-    left: &[u8],
-    right: &[u8],
-    relation: &[u8],
-    starts: Starts,
-    output: &mut [u8],
-) -> Answer
-    requires { ⌜ InputsRead (now left) (now right) (now relation) × (starts .left ≡ startOf (now left)) × (starts .right ≡ startOf (now right)) × (certificateLength (sizesOf (now left) (now right)) ≤ length (now output)) ⌝ }
-    ensures value { λ r. ⌜ r ≡ answerAfter (now (left .entry)) (now (right .entry)) (madeVerdict (now (left .entry)) (now (right .entry)) (now (relation .entry))) ⌝ }
-    ensures written { λ _. ⌜ now (output .exit) ≡ outputAfter (madeVerdict (now (left .entry)) (now (right .entry)) (now (relation .entry))) (fileFor (now (left .entry)) (now (right .entry)) (now (relation .entry))) (now (output .entry)) ⌝ }
+// Reads the left table, the right table, and the relation between them.
+pub fn read(left: &[u8], right: &[u8], relation: &[u8]) -> Inputs
+    ensures { λ r. ⌜ r ≡ asInputs (readVerdict (now (left .entry)) (now (right .entry)) (now (relation .entry))) ⌝ }
 {
-    let sizes = Sizes::of(left, right);
-    let rows = row_words(relation, sizes.n1 as usize);
-    let columns = column_words(&rows);
-    let ours = steps(left);
-    let theirs = steps(right);
-    let distances = all_distances(&rows, ours, theirs, sizes.n2);
-    let distances2 = all_distances(&columns, theirs, ours, sizes.n1);
-    let chains = all_chains(&rows, ours, &distances, sizes.n2, sizes.n1);
-    let chains2 = all_chains(&columns, theirs, &distances2, sizes.n1, sizes.n2);
-    let examined = examine(
-        left,
-        right,
-        &rows,
-        &columns,
-        &distances,
-        &distances2,
-        &chains,
-        &chains2,
-        starts,
-    );
+    let first = read_table(left);
+    let TableRead::Good(head) = first else {
+        return Inputs::Refused(table_answer(first, 0));
+    };
+    let second = read_table(right);
+    let TableRead::Good(head2) = second else {
+        return Inputs::Refused(table_answer(second, 1));
+    };
+    let third = read_relation(relation, Sizes::of(head, head2));
+    let RelationRead::Good(_) = third else {
+        return Inputs::Refused(relation_answer(third));
+    };
+    Inputs::Read(Heads {
+        left: head,
+        right: head2,
+    })
+}
+
+// What is made of two sides: what the examination refuses, or the file, over the front of the output, and its length.
+fn make_of(ours: &Side, theirs: &Side, relation: &[u8], sizes: Sizes, output: &mut [u8]) -> Answer
+    ensures value { λ r. ⌜ r ≡ answerOf (λ x. sixNumbers 0 0 (certificateLength sizes)) (examinedOf (now (ours .entry)) (now (theirs .entry))) ⌝ }
+    ensures written { λ _. ⌜ now (output .exit) ≡ filledAfter (examinedOf (now (ours .entry)) (now (theirs .entry))) sizes (now (relation .entry))
+        (ranksMade (now (ours .entry)) (now (theirs .entry))) (now (output .entry)) ⌝ }
+{
+    let left = measure(ours, theirs);
+    let right = measure(theirs, ours);
+    let distances = left.distances;
+    let distances2 = right.distances;
+    let chains = left.chains;
+    let chains2 = right.chains;
+    let examined = examine(ours, theirs, &distances, &distances2, &chains, &chains2);
     match examined {
-        Examined::Stopped(answer) => answer,
-        Examined::Passed => {
-            write_certificate(
-                relation,
-                sizes,
-                &rows,
-                &chains,
-                &distances,
-                &columns,
-                &chains2,
-                &distances2,
-                output,
-            );
+        Checked::Refused(answer) => answer,
+        Checked::Passed => {
+            let al = stutter_ranks(ours, &chains);
+            let ar = stutter_ranks(theirs, &chains2);
+            let cl = match_ranks(theirs, &distances);
+            let cr = match_ranks(ours, &distances2);
+            fill(relation, sizes, &al, &ar, &cl, &cr, output);
             Answer {
                 code: 0,
                 file: 0,
@@ -99,24 +112,13 @@ fn make_read(
     }
 }
 
-// The maker: for any byte strings and any output, the six numbers of its answer; the output gets the certificate, or stays as it was.
-pub fn make(left: &[u8], right: &[u8], relation: &[u8], output: &mut [u8]) -> Answer
+// The answer where both tables and the relation are read: 21 where the output has no room, or what is made of the two sides.
+fn make_read(left: &[u8], right: &[u8], relation: &[u8], heads: Heads, output: &mut [u8]) -> Answer
+    requires { ⌜ readVerdict (now left) (now right) (now relation) ≡ goOn heads ⌝ }
     ensures value { λ r. ⌜ r ≡ makeAnswer (now (left .entry)) (now (right .entry)) (now (relation .entry)) (now (output .entry)) ⌝ }
     ensures written { λ _. ⌜ now (output .exit) ≡ makeOutput (now (left .entry)) (now (right .entry)) (now (relation .entry)) (now (output .entry)) ⌝ }
 {
-    let first = read_table(left);
-    let TableRead::Good(ours) = first else {
-        return table_answer(first, 0);
-    };
-    let second = read_table(right);
-    let TableRead::Good(theirs) = second else {
-        return table_answer(second, 1);
-    };
-    let sizes = Sizes::of(left, right);
-    let third = read_relation(relation, sizes);
-    let RelationRead::Good(_) = third else {
-        return relation_answer(third);
-    };
+    let sizes = Sizes::of(heads.left, heads.right);
     let length = sizes.length();
     if output.len() < length {
         return Answer {
@@ -128,11 +130,21 @@ pub fn make(left: &[u8], right: &[u8], relation: &[u8], output: &mut [u8]) -> An
             d: 0,
         };
     }
-    let s = ours.initial;
-    let t = theirs.initial;
-    let starts = Starts {
-        left: s.first(),
-        right: t.first(),
-    };
-    make_read(left, right, relation, starts, output)
+    let words = row_words(relation, heads.left.states);
+    let columns = column_words(&words);
+    let ours = side_of(heads.left, labels(left), steps(left), &words);
+    let theirs = side_of(heads.right, labels(right), steps(right), &columns);
+    make_of(&ours, &theirs, relation, sizes, output)
+}
+
+// The maker: for any byte strings and any output, the six numbers of its answer; the output gets the certificate, or stays as it was.
+pub fn make(left: &[u8], right: &[u8], relation: &[u8], output: &mut [u8]) -> Answer
+    ensures value { λ r. ⌜ r ≡ makeAnswer (now (left .entry)) (now (right .entry)) (now (relation .entry)) (now (output .entry)) ⌝ }
+    ensures written { λ _. ⌜ now (output .exit) ≡ makeOutput (now (left .entry)) (now (right .entry)) (now (relation .entry)) (now (output .entry)) ⌝ }
+{
+    let inputs = read(left, right, relation);
+    match inputs {
+        Inputs::Refused(answer) => answer,
+        Inputs::Read(heads) => make_read(left, right, relation, heads, output),
+    }
 }

@@ -34,7 +34,8 @@ pub extern "C" fn stutter_judge(
     answer: &mut [u64],
 ) -> bool
     ensures room { λ r. ⌜ r ≡ hasRoom (now (answer .entry)) ⌝ }
-    ensures put { λ r. ⌜ now (answer .exit) ≡ answered (judgeAnswer (now (left .entry)) (now (right .entry)) (now (certificate .entry))) (now (answer .entry)) ⌝ }
+    ensures put { λ r. ⌜ now (answer .exit)
+        ≡ answered (judgeAnswer (now (left .entry)) (now (right .entry)) (now (certificate .entry))) (now (answer .entry)) ⌝ }
 {
     let numbers = checker::judge(left, right, certificate);
     put_numbers(numbers, answer)
@@ -51,8 +52,11 @@ pub extern "C" fn stutter_make(
     answer: &mut [u64],
 ) -> bool
     ensures room { λ r. ⌜ r ≡ hasRoom (now (answer .entry)) ⌝ }
-    ensures put { λ r. ⌜ now (answer .exit) ≡ answered (makeAnswer (now (left .entry)) (now (right .entry)) (now (relation .entry)) (now (output .entry))) (now (answer .entry)) ⌝ }
-    ensures written { λ r. ⌜ now (output .exit) ≡ whereRoom (now (answer .entry)) (makeOutput (now (left .entry)) (now (right .entry)) (now (relation .entry)) (now (output .entry))) (now (output .entry)) ⌝ }
+    ensures put { λ r. ⌜ now (answer .exit)
+        ≡ answered (makeAnswer (now (left .entry)) (now (right .entry)) (now (relation .entry)) (now (output .entry))) (now (answer .entry)) ⌝ }
+    ensures written { λ r. ⌜ now (output .exit)
+        ≡ whereRoom (now (answer .entry))
+        (makeOutput (now (left .entry)) (now (right .entry)) (now (relation .entry)) (now (output .entry))) (now (output .entry)) ⌝ }
 {
     if answer.len() < PLACES {
         return false;

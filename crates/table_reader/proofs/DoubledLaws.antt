@@ -45,7 +45,8 @@ met-none steps {l} e =
           ∙ has-empty (u % 64) ∙ sym (any-start (λ i. eqb (fromOf steps i) s && eqb (toOf steps i) u));
     }
 
-module _ (steps : List ℕ) (j : ℕ) (l : List ℕ) (w : Met steps j l) {s u : ℕ} (es : s ≡ fromOf steps j) (eu : u ≡ toOf steps j) (hs : s < 256) (hu : u < 256) where
+module _ (steps : List ℕ) (j : ℕ) (l : List ℕ) (w : Met steps j l)
+    {s u : ℕ} (es : s ≡ fromOf steps j) (eu : u ≡ toOf steps j) (hs : s < 256) (hu : u < 256) where
   -- the bit tells whether the step equals an earlier one
   pub met-doubled : doubled steps j ≡ hasBit (getD l (s * 4 + u / 64) 0) (u % 64)
   unfolding doubled sameStep
@@ -79,6 +80,8 @@ module _ (steps : List ℕ) (j : ℕ) (l : List ℕ) (w : Met steps j l) {s u : 
                   ∙ sym (any-more j (λ i. eqb (fromOf steps i) r && eqb (toOf steps i) x))
               | no q ↦ ap (λ (k : ℕ). hasBit k (x % 64)) (getD-set-other l (s * 4 + u / 64) (r * 4 + x / 64) v 0 q)
                   ∙ w .bits r x hr hx
-                  ∙ sym (any-more j (λ i. eqb (fromOf steps i) r && eqb (toOf steps i) x) ∙ ap (λ (b : Bool). anyBelow j (λ i. eqb (fromOf steps i) r && eqb (toOf steps i) x) || b) (no-bit r x q) ∙ or-false _)
+                  ∙ sym (any-more j (λ i. eqb (fromOf steps i) r && eqb (toOf steps i) x)
+                  ∙ ap (λ (b : Bool). anyBelow j (λ i. eqb (fromOf steps i) r && eqb (toOf steps i) x) || b) (no-bit r x q)
+                  ∙ or-false _)
             ];
       }

@@ -61,7 +61,8 @@ pub formed-good : (s : List ℕ) → WellFormedTable s → readTable s ≡ Good 
 formed-good = none-good 0
 
 -- the table's causes, then those of what follows
-pub after-table : (file : ℕ) (s : List ℕ) {B : Type 0} {Fine : B → Type 0} {later : List Cause} {rest : Verdict B} → (WellFormedTable s → Decided Fine later rest)
+pub after-table : (file : ℕ) (s : List ℕ) {B : Type 0} {Fine : B → Type 0} {later : List Cause} {rest : Verdict B}
+    → (WellFormedTable s → Decided Fine later rest)
     → Decided Fine (tableCauses file s ++ later) (tableVerdict file (readTable s) andThen λ h. rest)
 after-table file s d = decided-then (tableVerdict file (readTable s)) (table-decided file s) (λ h e n. d (good-formed s (none-good file s n)))
 
@@ -70,4 +71,5 @@ after-table file s d = decided-then (tableVerdict file (readTable s)) (table-dec
 pub table-numbers : (f : ℕ → ℕ → Bool) (file : ℕ) → Allows f file (1 ∷ 2 ∷ 3 ∷ 4 ∷ 5 ∷ 6 ∷ 7 ∷ 8 ∷ 9 ∷ []) → (s : List ℕ) → Numbered f (tableCauses file s)
 table-numbers f file (h1, (h2, (h3, (h4, (h5, (h6, (h7, (h8, (h9, h))))))))) s =
     numbered-append f (headerCauses file s) (endCauses file s ++ doubledCauses file s) (h1, (h2, (h3, (h4, (h5, (h6, (h7, tt)))))))
-    (numbered-append f (endCauses file s) (doubledCauses file s) (numbered-below f (stepsOf s) _ (λ j. (h8, tt))) (numbered-below f (stepsOf s) _ (λ j. (h9, tt))))
+    (numbered-append f (endCauses file s) (doubledCauses file s)
+    (numbered-below f (stepsOf s) _ (λ j. (h8, tt))) (numbered-below f (stepsOf s) _ (λ j. (h9, tt))))

@@ -128,4 +128,5 @@ start-first s e =
     let n = o .states-le in
     let l = o .start-lt in
     ap (λ (w : ℕ). firstBelow 64 (hasBit w)) (o .initial-is)
-    ∙ first-is 64 (hasBit (initialOf s)) (startOf s) (omega arith) (f .initial-some) (λ k b q. let z = eqb→eq k (startOf s) (subst T (f .one-initial k) q) in omega arith)
+    ∙ first-is 64 (hasBit (initialOf s)) (startOf s) (omega arith) (f .initial-some)
+    (λ k b q. let z = eqb→eq k (startOf s) (subst T (f .one-initial k) q) in omega arith)

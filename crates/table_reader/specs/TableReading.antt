@@ -5,7 +5,21 @@ use mathlib.Core.Bool.{Bool, cond, not, _&&_, _||_}
 use lib.ListN.{length}
 use lib.Dec.{ltb, leb, eqb}
 use Rattle.lists.specs.Below.{anyBelow, firstBelow}
-use Rattle.tables.specs.Table.{headerLength, maxStates, maxSteps, magicFits, versionOf, statesOf, startOf, stepsOf, initialOf, tableLength, stepsPart, fromOf, toOf}
+use Rattle.tables.specs.Table.{
+  headerLength,
+  maxStates,
+  maxSteps,
+  magicFits,
+  versionOf,
+  statesOf,
+  startOf,
+  stepsOf,
+  initialOf,
+  tableLength,
+  stepsPart,
+  fromOf,
+  toOf,
+}
 use Rattle.tables.specs.declared.Head.{Head}
 use Rattle.table_reader.specs.declared.TableRefusal.the-variants.{Short, Magic, Version, States, Start, Steps, Length, StepEnd, Doubled}
 use Rattle.table_reader.specs.declared.TableRead.{TableRead}

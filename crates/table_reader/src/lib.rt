@@ -73,10 +73,10 @@ impl TableRefusal {
 pub fn magic_fits(s: &[u8], third: usize) -> bool
     ensures { λ r. ⌜ r ≡ magicFits third (now (s .entry)) ⌝ }
 {
-    if byte(s, 0) != 0x54 {
+    if byte(s, 0) != Head::MAGIC_1 {
         return false;
     }
-    if byte(s, 1) != 0x50 {
+    if byte(s, 1) != Head::MAGIC_2 {
         return false;
     }
     byte(s, 2) == third
@@ -127,7 +127,7 @@ fn read_header(s: &[u8]) -> TableRead
     if s.len() < Head::BYTES {
         return TableRead::Refused(TableRefusal::Short);
     }
-    if !magic_fits(s, 0x54) {
+    if !magic_fits(s, Head::TABLE) {
         return TableRead::Refused(TableRefusal::Magic);
     }
     if read_be16(s, 3) != Head::VERSION {

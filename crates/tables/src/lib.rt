@@ -27,6 +27,15 @@ impl Head {
 
     // The version that is read.
     pub const VERSION: u64 = 1;
+
+    // The first byte of a table and of a certificate, "T".
+    pub const MAGIC_1: usize = 0x54;
+
+    // The second byte of a table and of a certificate, "P".
+    pub const MAGIC_2: usize = 0x50;
+
+    // The third byte of a table, "T".
+    pub const TABLE: usize = 0x54;
 }
 
 // The number of states that the header gives.

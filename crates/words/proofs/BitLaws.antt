@@ -5,17 +5,33 @@ use mathlib.Core.Path.{_≡_, refl, sym, ap, ap₂, _∙_, subst}
 use mathlib.Core.Logic.{⊎-elim}
 use mathlib.Core.List.{List}
 use mathlib.Core.Bool.{Bool, true, false, cond, not, _&&_, _||_, false≢true}
-use native.Mathlib.Nat.{div-one, div-eq-of-lt, zero-div, mod-lt, mul-mod-left, mod-eq-of-lt, one-mul, lt-of-lt-of-le, lt-of-le-of-lt, zero-lt-suc, le-of-suc-le-suc, not-suc-le-zero, pow-suc, mul-div-cancel, div-add-mod'}
+use native.Mathlib.Nat.{
+  div-one,
+  div-eq-of-lt,
+  zero-div,
+  mod-lt,
+  mul-mod-left,
+  mod-eq-of-lt,
+  one-mul,
+  lt-of-lt-of-le,
+  lt-of-le-of-lt,
+  zero-lt-suc,
+  le-of-suc-le-suc,
+  not-suc-le-zero,
+  pow-suc,
+  mul-div-cancel,
+  div-add-mod',
+}
 use native.Mathlib.Numerals.{one-add, add-one}
 use native.Mathlib.Omega.{arith}
-use native.Mathlib.Decide.{decLt}
+use native.Mathlib.Decide.{ℕ-discrete, decLt}
 use lib.Dec.{T, T-not, not-T, leb, leb→le, le→leb, eqb→eq, eqb, ltb, eqb-refl, eqb·zero-suc, eqb·suc-zero, eqb·suc-suc}
 use lib.Bits.{bitAnd, bitOr, bitXor, and-shr, or-shr, xor-shr, and-mod, or-mod, xor-mod, and-le-l, or-lt, xor-lt}
 use lib.Pow.{pow-mono, pow-lt, shr-shr, shr-lt, shr-le}
 use lib.Arith.{lt-one}
 use lib.Count.{ones, ones-step, trailingZeros, under}
 use lib.ListN.{length}
-use borrow.Author.Tests.{ltb-true, ltb-false, eqb-true, lt-ltb, ne-eqb}
+use borrow.Author.Tests.{ltb-true, ltb-false, eqb-true, lt-ltb, eq-eqb, ne-eqb}
 use Rattle.lists.specs.Below.{firstBelow, sumBelow, countBelow}
 use Rattle.lists.specs.Lists.{putFront}
 use Rattle.lists.specs.Numbers.{bigEndian, bigBytes}
@@ -221,6 +237,22 @@ pub first-bound : (x : ℕ) → firstBit x ≤ 64
 unfolding firstBit
 first-bound x = below.first-bound 64 (hasBit x)
 
+-- once the first state is taken out, the next is a greater one
+pub first-rises : (x t : ℕ) → x < 2 ^ 64 → t ≡ firstBit x → t < 64 → t < firstBit (removeBit x t)
+first-rises x t fits e h = elim (decLt t (firstBit (removeBit x t))) [
+  | yes p ↦ p
+  | no p ↦ absurd (no-smaller (omega arith))
+]
+  where
+    no-smaller : firstBit (removeBit x t) ≤ t → ⊥
+    no-smaller l =
+        let k = firstBit (removeBit x t) in
+        let b = subst T (has-remove x t k fits) (first-has (removeBit x t) (omega arith)) in
+        elim (ℕ-discrete k t) [
+          | yes q ↦ (let z = subst (λ (c : Bool). T (not c && hasBit x k)) (eq-eqb k t q) b in z)
+          | no q ↦ first-least x k (rw (← e) (omega arith)) (and-r (not (eqb k t)) (hasBit x k) b)
+        ]
+
 -- ---- a word is its bits
 
 digit-equal : (d e : ℕ) → d < 2 → e < 2 → eqb d 1 ≡ eqb e 1 → d ≡ e
@@ -284,7 +316,8 @@ from-shift x n h = same-T (hasFrom x n) (not (eqb (x / 2 ^ n) 0)) some zero-or
     zero-or : T (not (eqb (x / 2 ^ n) 0)) → T (hasFrom x n)
     zero-or b = ⊎-elim (λ c. c) (λ none. absurd (T-not (eqb (x / 2 ^ n) 0) b (eq→eqb (x / 2 ^ n) 0
         (words-equal (x / 2 ^ n) 0 (lt-of-le-of-lt (shr-le x n) h) (zero-lt-suc _)
-        (λ t l. has-shift x n t ∙ not-T-false (hasBit x (n + t)) (λ c. omega (arith, from-none x n none h (n + t) c)) ∙ sym (has-empty t)))))) (T-dec (hasFrom x n))
+        (λ t l. has-shift x n t ∙ not-T-false (hasBit x (n + t)) (λ c. omega (arith, from-none x n none h (n + t) c)) ∙ sym (has-empty t))))))
+        (T-dec (hasFrom x n))
 
 -- ---- one state less
 

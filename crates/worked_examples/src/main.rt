@@ -161,11 +161,21 @@ fn show_judged(left: &[u8], right: &[u8], certificate: &[u8]) {
 
 // ---- what the maker says and writes
 
+// The sizes that the headers of two files give, whether or not they are good tables.
+fn sizes_of(left: &[u8], right: &[u8]) -> Sizes {
+    Sizes {
+        n1: tables::states(left) as u8,
+        n2: tables::states(right) as u8,
+        m1: tables::step_count(left) as u16,
+        m2: tables::step_count(right) as u16,
+    }
+}
+
 // The length of a certificate, and 1023 for a longer one: an output has 1024 bytes.
 fn room(left: &[u8], right: &[u8]) -> usize
     ensures { λ r. ⌜ (0 < r) × (r < 1024) ⌝ }
 {
-    let sizes = Sizes::of(left, right);
+    let sizes = sizes_of(left, right);
     let length = sizes.length();
     if length < 1024 {
         return length;
@@ -222,9 +232,9 @@ fn show(letter: u8, left: &[u8], right: &[u8], file: &[u8]) {
     match letter {
         b'T' => show_table(left, 0),
         b'P' => show_tables(left, right),
-        b'C' => show_certificate(file, Sizes::of(left, right)),
-        b'R' => show_relation(file, Sizes::of(left, right)),
-        b'O' => show_layout(Sizes::of(left, right)),
+        b'C' => show_certificate(file, sizes_of(left, right)),
+        b'R' => show_relation(file, sizes_of(left, right)),
+        b'O' => show_layout(sizes_of(left, right)),
         b'L' => show_labels(left),
         b'S' => show_steps(left, 0, 1),
         b'J' => show_judged(left, right, file),

@@ -29,8 +29,8 @@ loop-holds c = (refl, omega arith, omega arith)
 mul-t6 : tie.Need-mul-t6 Inv-loop μ-loop
 mul-t6 c = search needs
 
-shared-slice-read-t8 : tie.Need-shared-slice-read-t8 Inv-loop μ-loop
-shared-slice-read-t8 c = search needs
+element-copy-out-t9 : tie.Need-element-copy-out-t9 Inv-loop μ-loop
+element-copy-out-t9 c = search needs
 
 count-requires : tie.Need-count-requires Inv-loop μ-loop
 count-requires c κs = search needs
@@ -51,7 +51,7 @@ loop-less c = search needs
 
 loop-again : tie.Need-loop-again Inv-loop μ-loop
 loop-again c =
-    let a = c .before .before .before .before .before .args in
+    let a = c .before .before .before .before .args in
     let l = c .before .before .before .loop in
     let k = one-row _ (c .count .ensures) in
     let i = l .inv .2 in
@@ -70,7 +70,7 @@ count-pairs-spec =
     μ-loop
     loop-holds
     mul-t6
-    shared-slice-read-t8
+    element-copy-out-t9
     count-requires
     add-pairs
     add-s

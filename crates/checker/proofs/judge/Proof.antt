@@ -1,37 +1,55 @@
 -- `checker::judge` meets its contract: each file is read, and the first that is refused answers. Assumes nothing.
-use Prim.Native.Nat.{ℕ}
-use mathlib.Core.Path.{_≡_, sym, ap, ap₂, _∙_}
-use native.Mathlib.Omega.{arith}
+use mathlib.Core.Path.{_≡_, sym, ap, _∙_}
 use denote.Ref.{now}
 use Rattle.certificates.specs.declared.Sizes.{Sizes}
+use Rattle.certificates.specs.Layout.{sizesOf}
 use Rattle.certificate_reader.specs.CertificateReading.{readCertificate}
+use Rattle.certificate_reader.proofs.CertificateLaws.{sizes-are}
 use Rattle.table_reader.specs.TableReading.{readTable}
 use Rattle.table_reader.specs.declared.TableRead.the-variants as table
-use Rattle.table_reader.proofs.TableLaws.{table-ok, start-first}
-use Rattle.checker.specs.Judge.{AllRead, judgedBytes, answerAfter}
+use Rattle.checker.specs.Judge.{AllRead}
 use Rattle.checker.proofs.JudgeLaws.{left-refused, right-refused, certificate-refused, all-read}
 use borrow.Author.Needs.{needs}
 use Rattle.checker.proofs.judge.Statement.{statement}
 use Rattle.checker.proofs.judge.Tie as tie
 
--- the three reads that were good
+-- ---- the three reads
+
 left-good : (c : tie.After-first) → readTable (now (c .before .before .before .before .before .before .args .left)) ≡ table.Good (c .first .given .0 .0)
 left-good c = sym (c .before .before .read-table .ensures) ∙ c .first .given .1
 
-right-good : (c : tie.After-second) → readTable (now (c .before .before .before .before .before .before .before .before .before .before .args .right)) ≡ table.Good (c .second .given .0 .0)
+right-good : (c : tie.After-second) → let first = c .before .before .before .before in
+    readTable (now (first .before .before .before .before .before .before .args .right)) ≡ table.Good (c .second .given .0 .0)
 right-good c = sym (c .before .before .read-table2 .ensures) ∙ c .second .given .1
 
-all-good : (c : tie.After-enum-told3) → let a = c .before .before .before .before .before .before .before .before .before .before .before .before .before .before .before .args in AllRead (now (a .left)) (now (a .right)) (now (a .certificate))
+-- the certificate is read with the sizes that the bytes of the tables give
+read-is : (c : tie.After-read-certificate) →
+    let first = c .before .before .before .before .before .before .before in
+    let a = first .before .before .before .before .before .before .args in
+    c .read-certificate .result ≡ readCertificate (sizesOf (now (a .left)) (now (a .right))) (now (a .certificate))
+read-is c =
+    let second = c .before .before .before in
+    let first = second .before .before .before .before in
+    let a = first .before .before .before .before .before .before .args in
+    c .read-certificate .ensures
+    ∙ ap (λ (z : Sizes). readCertificate z (now (a .certificate)))
+    (c .before .of .ensures ∙ sizes-are (now (a .left)) (now (a .right)) (left-good first) (right-good second))
+
+all-good : (c : tie.After-enum-told3) →
+    let second = c .before .before .before .before .before in
+    let first = second .before .before .before .before in
+    let a = first .before .before .before .before .before .before .args in
+    AllRead (now (a .left)) (now (a .right)) (now (a .certificate)) (first .first .given .0 .0) (second .second .given .0 .0)
 all-good c =
-    let a = c .before .before .before .before .before .before .before .before .before .before .before .before .before .before .before .args in
+    let second = c .before .before .before .before .before in
     record {
-      head = _;
-      head′ = _;
       sizes = _;
-      left-good = left-good (c .before .before .before .before .before .before .before .before .before);
-      right-good = right-good (c .before .before .before .before .before);
-      certificate-good = sym (c .before .before .read-certificate .ensures ∙ ap (λ (z : Sizes). readCertificate z (now (a .certificate))) (c .before .before .before .of .ensures)) ∙ c .enum-told3 .given .1;
+      left-good = left-good (second .before .before .before .before);
+      right-good = right-good second;
+      certificate-good = sym (read-is (c .before .before)) ∙ c .enum-told3 .given .1;
     }
+
+-- ---- the needs
 
 read-table-requires : tie.Need-read-table-requires
 read-table-requires c κs = search needs
@@ -47,8 +65,9 @@ table-answer-requires c κs = search needs
 
 returns : tie.Need-returns
 returns c =
+    let read-table = c .before .before .before .read-table in
     let a = c .before .before .before .before .before .before .before .args in
-    c .table-answer .ensures ∙ left-refused (now (a .left)) (now (a .right)) (now (a .certificate)) (c .before .before .before .read-table .ensures) (c .before .enum-told .given .1)
+    c .table-answer .ensures ∙ left-refused (now (a .left)) (now (a .right)) (now (a .certificate)) (read-table .ensures) (c .before .enum-told .given .1)
 
 read-table-requires-2 : tie.Need-read-table-requires-2
 read-table-requires-2 c κs = search needs
@@ -64,8 +83,11 @@ table-answer-requires-2 c κs = search needs
 
 returns-2 : tie.Need-returns-2
 returns-2 c =
+    let read-table2 = c .before .before .before .read-table2 in
     let a = c .before .before .before .before .before .before .before .before .before .before .before .args in
-    c .table-answer2 .ensures ∙ right-refused (now (a .left)) (now (a .right)) (now (a .certificate)) (sym (c .before .before .before .before .before .before .before .read-table .ensures) ∙ c .before .before .before .before .before .first .given .1) (c .before .before .before .read-table2 .ensures) (c .before .enum-told2 .given .1)
+    c .table-answer2 .ensures
+    ∙ right-refused (now (a .left)) (now (a .right)) (now (a .certificate)) (left-good (c .before .before .before .before .before))
+    (read-table2 .ensures) (c .before .enum-told2 .given .1)
 
 of-requires : tie.Need-of-requires
 of-requires c κs = search needs
@@ -84,32 +106,21 @@ certificate-answer-requires c κs = search needs
 
 returns-3 : tie.Need-returns-3
 returns-3 c =
-    let a = c .before .before .before .before .before .before .before .before .before .before .before .before .before .before .before .before .args in
-    c .certificate-answer .ensures ∙ certificate-refused (now (a .left)) (now (a .right)) (now (a .certificate)) (sym (c .before .before .before .before .before .before .before .before .before .before .before .before .read-table .ensures) ∙ c .before .before .before .before .before .before .before .before .before .before .first .given .1) (sym (c .before .before .before .before .before .before .before .before .read-table2 .ensures) ∙ c .before .before .before .before .before .before .second .given .1)
-    (c .before .before .before .read-certificate .ensures ∙ ap (λ (z : Sizes). readCertificate z (now (a .certificate))) (c .before .before .before .before .of .ensures)) (c .before .enum-told4 .given .1)
-
-first-requires : tie.Need-first-requires
-first-requires c κs = search needs
-
-first-requires-2 : tie.Need-first-requires-2
-first-requires-2 c κs = search needs
+    let second = c .before .before .before .before .before .before in
+    let first = second .before .before .before .before in
+    let a = first .before .before .before .before .before .before .args in
+    c .certificate-answer .ensures
+    ∙ certificate-refused (now (a .left)) (now (a .right)) (now (a .certificate)) (left-good first) (right-good second)
+    (read-is (c .before .before .before)) (c .before .enum-told4 .given .1)
 
 judge-read-requires : tie.Need-judge-read-requires
-judge-read-requires c κs =
-    let l = left-good (c .before .before .before .before .before .before .before .before .before .before .before .before .before) in
-    let o = table-ok _ l in
-    let e = c .before .first2 .ensures ∙ start-first _ l in
-    let s = o .start-lt in
-    (all-good (c .before .before .before .before), omega arith)
+judge-read-requires c κs = all-good c
 
 returns-4 : tie.Need-returns-4
-unfolding all-good
 returns-4 c =
-    let a = c .before .before .before .before .before .before .before .before .before .before .before .before .before .before .before .before .before .before .before .before .args in
-    let g = all-good (c .before .before .before .before .before) in
-    c .judge-read .ensures
-    ∙ ap₂ (λ (s t : ℕ). answerAfter (now (a .left)) (now (a .right)) (now (a .certificate)) (judgedBytes (now (a .left)) (now (a .right)) (now (a .certificate)) s t)) (c .before .before .first2 .ensures ∙ start-first _ (g .left-good)) (c .before .first3 .ensures ∙ start-first _ (g .right-good))
-    ∙ sym (all-read (now (a .left)) (now (a .right)) (now (a .certificate)) (g .left-good) (g .right-good) (g .certificate-good))
+    let a = c .before .before .before .before .before .before .before .before .before .before .before .before .before .before .before .before .args in
+    let g = all-good (c .before) in
+    c .judge-read .ensures ∙ sym (all-read (now (a .left)) (now (a .right)) (now (a .certificate)) (g .left-good) (g .right-good) (g .certificate-good))
 
 pub judge-spec : {M : Type 1} → statement M
 judge-spec =
@@ -131,7 +142,5 @@ judge-spec =
     enum-told-4
     certificate-answer-requires
     returns-3
-    first-requires
-    first-requires-2
     judge-read-requires
     returns-4)

@@ -1,23 +1,25 @@
--- `examination::check_pairs` meets its contract: every left state before s has passed. Assumes nothing.
+-- `examination::check_pairs` meets its contract: every one of our states before s has passed. Assumes nothing.
 use Prim.Native.Nat.{ℕ, _≤_, _<_, _-_}
 use mathlib.Core.Path.{_≡_, sym, _∙_}
 use native.Mathlib.Nat.{not-suc-le-zero}
 use native.Mathlib.Omega.{arith}
 use borrow.Author.Count.{below-more}
 use denote.Ref.{now}
-use Rattle.tables.specs.Table.{statesOf}
 use Rattle.answers.specs.Verdicts.{passed}
-use Rattle.examination.proofs.VerdictLaws.{was-passed}
-use Rattle.examination.proofs.RowLaws.{rowAt, rows-stop, rows-pass}
+use Rattle.sides.specs.Side.{systemIn}
+use Rattle.examination.specs.Walk.{rowIn}
+use Rattle.examination.proofs.CheckedLaws.{was-passed}
+use Rattle.examination.proofs.PairLaws.{rows-stop, rows-pass}
 use borrow.Author.Needs.{needs}
 use Rattle.examination.proofs.check_pairs.Statement.{statement}
 use Rattle.examination.proofs.check_pairs.Tie as tie
 
 abbrev Inv-loop : tie.InvT-loop
-Inv-loop left right rows columns distances others n s₀ s = ((i : ℕ) → i < s → rowAt left right rows columns distances others i ≡ passed) × (s ≤ n) × (n ≡ statesOf left) × (n < 256)
+Inv-loop ours theirs distances distances2 n s₀ s = ((i : ℕ) → i < s → rowIn ours theirs distances distances2 i ≡ passed) × (s ≤ n)
+    × (n ≡ systemIn ours .states) × (n ≤ 64)
 
 abbrev μ-loop : tie.MeasureT-loop
-μ-loop left right rows columns distances others n s₀ s = n - s
+μ-loop ours theirs distances distances2 n s₀ s = n - s
 
 states-requires : tie.Need-states-requires Inv-loop μ-loop
 states-requires c κs = search needs
@@ -36,10 +38,12 @@ enum-told-2 c = search needs
 
 returns : tie.Need-returns Inv-loop μ-loop
 returns c =
-    let a = c .before .before .before .before .before .before .before .before .before .before .before .before .args in
+    let test = c .before .before .before .loop-test in
+    let a = c .before .before .before .before .before .before .before .before .args in
     let l = c .before .before .before .before .loop in
     let g = c .enum-told2 .given .1 in
-    g ∙ rows-stop (now (a .left)) (now (a .right)) (now (a .rows)) (now (a .columns)) (now (a .distances)) (now (a .distances2)) (l .inv .0) (l .inv .2) (c .before .before .before .loop-test .taken) (sym (c .before .before .check-row .ensures) ∙ g)
+    g ∙ rows-stop (now (a .ours)) (now (a .theirs)) (now (a .distances)) (now (a .distances2)) (l .inv .0) (l .inv .2) (test .taken)
+    (sym (c .before .before .check-row .ensures) ∙ g)
 
 add-s : tie.Need-add-s Inv-loop μ-loop
 add-s c = search needs
@@ -49,15 +53,17 @@ loop-less c = search needs
 
 loop-again : tie.Need-loop-again Inv-loop μ-loop
 loop-again c =
-    let a = c .before .before .before .before .before .before .before .before .before .before .before .before .args in
+    let a = c .before .before .before .before .before .before .before .before .args in
     let l = c .before .before .before .before .loop in
-    (below-more (λ (i : ℕ). rowAt (now (a .left)) (now (a .right)) (now (a .rows)) (now (a .columns)) (now (a .distances)) (now (a .distances2)) i ≡ passed) (l .s) (l .inv .0) (was-passed _ (sym (c .before .before .check-row .ensures) ∙ c .enum-told .given .1)), omega arith, l .inv .2, l .inv .3)
+    let row = rowIn (now (a .ours)) (now (a .theirs)) (now (a .distances)) (now (a .distances2)) in
+    let passes = was-passed (row (l .s)) (sym (c .before .before .check-row .ensures) ∙ c .enum-told .given .1) in
+    (below-more (λ (i : ℕ). row i ≡ passed) (l .s) (l .inv .0) passes, omega arith, l .inv .2, l .inv .3)
 
 returns-2 : tie.Need-returns-2 Inv-loop μ-loop
 returns-2 c =
-    let a = c .before .before .before .before .before .before .before .before .before .args in
+    let a = c .before .before .before .before .before .args in
     let l = c .before .loop in
-    rows-pass (now (a .left)) (now (a .right)) (now (a .rows)) (now (a .columns)) (now (a .distances)) (now (a .distances2)) (l .inv .0) (l .inv .2) (c .loop-test .left)
+    rows-pass (now (a .ours)) (now (a .theirs)) (now (a .distances)) (now (a .distances2)) (l .inv .0) (l .inv .2) (c .loop-test .left)
 
 pub check-pairs-spec : {M : Type 1} → statement M
 check-pairs-spec =

@@ -1,5 +1,5 @@
 -- `files::write_parts` meets its contract: each part that comes back makes the front of the output longer. Assumes nothing.
-use Prim.Native.Nat.{ℕ, _-_}
+use Prim.Native.Nat.{ℕ, _-_, _<_}
 use mathlib.Core.Path.{sym, _∙_}
 use mathlib.Core.List.{List, _++_}
 use native.Mathlib.Omega.{arith}
@@ -9,7 +9,7 @@ use Rattle.lists.specs.Lists.{grid}
 use Rattle.lists.proofs.FillLaws.{Front, front-none, length-grid}
 use Rattle.certificates.specs.declared.Sizes.{Sizes}
 use Rattle.files.specs.File.{certificateHeader, certificateFile}
-use Rattle.files.specs.Writer.{stutterFrom, matchFrom}
+use Rattle.files.specs.Writer.{cellIn}
 use Rattle.files.proofs.FileLaws.{FitsHeader, header-length}
 use Rattle.files.proofs.WriterLaws.{Spans, spans, span-order, span-end, span-length, span-front, front-put}
 use Rattle.files.proofs.write_parts.Statement.{statement}
@@ -17,8 +17,11 @@ use Rattle.files.proofs.write_parts.Tie as tie
 
 -- ---- what is known once the offsets are: the arguments, the offsets, and that the parts follow each other
 
+abbrev begin : tie.After-struct-known4 → tie.Start
+begin c = c .before .before .before .before .before .before .before .before .before .before
+
 abbrev start : tie.After-length → tie.Start
-start c = c .before .before .before .before .before .before .before .before .before .before .before .before .before .before .before .before .before .before
+start c = begin (c .before .before .before .before .before .before)
 
 abbrev sizes : tie.After-length → Sizes
 sizes c = start c .args .sizes
@@ -49,103 +52,96 @@ known c =
     spans (sizes c) (output c) (c .before .before .before .before .before .rows-at .ensures) (c .before .before .before .before .al-at .ensures)
     (c .before .before .before .ar-at .ensures) (c .before .before .cl-at .ensures) (c .before .cr-at .ensures) (c .length .ensures) (start c .pre .1)
 
-small : (c : tie.After-struct-known4) → FitsHeader (c .before .before .before .before .before .before .before .before .before .before .before .before .args .sizes)
+small : (c : tie.After-struct-known4) → FitsHeader (begin c .args .sizes)
 small c = record { n1< = omega arith; n2< = omega arith; m1< = omega arith; m2< = omega arith }
 
 fits : (c : tie.After-length) → FitsHeader (sizes c)
 fits c = small (c .before .before .before .before .before .before)
 
+wide : {n : ℕ} → n < 256 → n < 65536
+wide h = omega arith
+
 -- ---- the output when each part is back, and its front: the header, the rows, then the runs
+
+abbrev lent : (a e : tie.After-length → ℕ) → tie.After-length → (l back : List ℕ) → List ℕ
+lent a e c l back = putMid (a c) (e c - a c) l back
+
+abbrev FrontTo : (p : tie.After-length → List ℕ) (e : tie.After-length → ℕ) → tie.After-length → (l : List ℕ) → Type 0
+FrontTo p e c l = Front (p c) (output c) l (e c)
 
 abbrev at-header : tie.After-slice-known2 → tie.After-length
 at-header c = c .before .before .before .before
 
-abbrev output-header : tie.After-slice-known2 → List ℕ
-output-header c = putMid 0 (rows (at-header c) - 0) (output (at-header c)) (c .before .before .put-header .last .1 .0)
-
-abbrev part-header : tie.After-length → List ℕ
-part-header c = certificateHeader (sizes c)
-
 abbrev to-header : tie.After-length → List ℕ
-to-header c = part-header c
+to-header c = certificateHeader (sizes c)
 
-front-header : (c : tie.After-slice-known2) → Front (to-header (at-header c)) (output (at-header c)) (output-header c) (rows (at-header c))
-front-header c = span-front (front-none _) (known (at-header c) .header) (part-header (at-header c)) (c .before .before .put-header .ensures) (header-length (sizes (at-header c)))
+abbrev output-header : tie.After-slice-known2 → List ℕ
+output-header c = lent (λ _. 0) rows (at-header c) (output (at-header c)) (c .before .before .put-header .last .1 .0)
+
+front-header : (c : tie.After-slice-known2) → FrontTo to-header rows (at-header c) (output-header c)
+front-header c = span-front (front-none _) (known (at-header c) .header) _ (c .before .before .put-header .ensures) (header-length (sizes (at-header c)))
 
 abbrev at-rows : tie.After-slice-known3 → tie.After-length
 at-rows c = at-header (c .before .before .before .before)
 
-abbrev output-rows : tie.After-slice-known3 → List ℕ
-output-rows c = putMid (rows (at-rows c)) (al (at-rows c) - rows (at-rows c)) (output-header (c .before .before .before .before)) (c .before .before .put-rows .last .1 .0)
-
-abbrev part-rows : tie.After-length → List ℕ
-part-rows c = start c .args .relation .now
-
 abbrev to-rows : tie.After-length → List ℕ
-to-rows c = to-header c ++ part-rows c
+to-rows c = to-header c ++ start c .args .relation .now
 
-front-rows : (c : tie.After-slice-known3) → Front (to-rows (at-rows c)) (output (at-rows c)) (output-rows c) (al (at-rows c))
-front-rows c = span-front (front-header (c .before .before .before .before)) (known (at-rows c) .rows-run) (part-rows (at-rows c)) (c .before .before .put-rows .ensures) (start (at-rows c) .pre .0)
+abbrev output-rows : tie.After-slice-known3 → List ℕ
+output-rows c = lent rows al (at-rows c) (output-header (c .before .before .before .before)) (c .before .before .put-rows .last .1 .0)
+
+front-rows : (c : tie.After-slice-known3) → FrontTo to-rows al (at-rows c) (output-rows c)
+front-rows c =
+    span-front (front-header (c .before .before .before .before)) (known (at-rows c) .rows-run) _ (c .before .before .put-rows .ensures)
+    (start (at-rows c) .pre .0)
 
 abbrev at-al : tie.After-slice-known4 → tie.After-length
 at-al c = at-rows (c .before .before .before .before)
 
-abbrev output-al : tie.After-slice-known4 → List ℕ
-output-al c = putMid (al (at-al c)) (ar (at-al c) - al (at-al c)) (output-rows (c .before .before .before .before)) (c .before .before .fill-stutter-ranks .last .1 .1 .1 .1 .0)
-
-abbrev part-al : tie.After-length → List ℕ
-part-al c = grid (sizes c .n1) (sizes c .n2) (stutterFrom (start c .args .words1 .now) (start c .args .chains1 .now))
-
 abbrev to-al : tie.After-length → List ℕ
-to-al c = to-rows c ++ part-al c
+to-al c = to-rows c ++ grid (sizes c .n1) (sizes c .n2) (cellIn (start c .args .al .now))
 
-front-al : (c : tie.After-slice-known4) → Front (to-al (at-al c)) (output (at-al c)) (output-al c) (ar (at-al c))
-front-al c = span-front (front-rows (c .before .before .before .before)) (known (at-al c) .al-run) (part-al (at-al c)) (c .before .before .fill-stutter-ranks .ensures) (length-grid _ _ _)
+abbrev output-al : tie.After-slice-known4 → List ℕ
+output-al c = lent al ar (at-al c) (output-rows (c .before .before .before .before)) (c .before .before .put-run .last .1 .1 .1 .0)
+
+front-al : (c : tie.After-slice-known4) → FrontTo to-al ar (at-al c) (output-al c)
+front-al c = span-front (front-rows (c .before .before .before .before)) (known (at-al c) .al-run) _ (c .before .before .put-run .ensures) (length-grid _ _ _)
 
 abbrev at-ar : tie.After-slice-known5 → tie.After-length
 at-ar c = at-al (c .before .before .before .before)
 
-abbrev output-ar : tie.After-slice-known5 → List ℕ
-output-ar c = putMid (ar (at-ar c)) (cl (at-ar c) - ar (at-ar c)) (output-al (c .before .before .before .before)) (c .before .before .fill-stutter-ranks2 .last .1 .1 .1 .1 .0)
-
-abbrev part-ar : tie.After-length → List ℕ
-part-ar c = grid (sizes c .n2) (sizes c .n1) (stutterFrom (start c .args .words2 .now) (start c .args .chains2 .now))
-
 abbrev to-ar : tie.After-length → List ℕ
-to-ar c = to-al c ++ part-ar c
+to-ar c = to-al c ++ grid (sizes c .n2) (sizes c .n1) (cellIn (start c .args .ar .now))
 
-front-ar : (c : tie.After-slice-known5) → Front (to-ar (at-ar c)) (output (at-ar c)) (output-ar c) (cl (at-ar c))
-front-ar c = span-front (front-al (c .before .before .before .before)) (known (at-ar c) .ar-run) (part-ar (at-ar c)) (c .before .before .fill-stutter-ranks2 .ensures) (length-grid _ _ _)
+abbrev output-ar : tie.After-slice-known5 → List ℕ
+output-ar c = lent ar cl (at-ar c) (output-al (c .before .before .before .before)) (c .before .before .put-run2 .last .1 .1 .1 .0)
+
+front-ar : (c : tie.After-slice-known5) → FrontTo to-ar cl (at-ar c) (output-ar c)
+front-ar c = span-front (front-al (c .before .before .before .before)) (known (at-ar c) .ar-run) _ (c .before .before .put-run2 .ensures) (length-grid _ _ _)
 
 abbrev at-cl : tie.After-slice-known6 → tie.After-length
 at-cl c = at-ar (c .before .before .before .before)
 
-abbrev output-cl : tie.After-slice-known6 → List ℕ
-output-cl c = putMid (cl (at-cl c)) (cr (at-cl c) - cl (at-cl c)) (output-ar (c .before .before .before .before)) (c .before .before .fill-match-ranks .last .1 .1 .1 .0)
-
-abbrev part-cl : tie.After-length → List ℕ
-part-cl c = grid (sizes c .m1) (sizes c .n2) (matchFrom (start c .args .distances1 .now) (sizes c .n2))
-
 abbrev to-cl : tie.After-length → List ℕ
-to-cl c = to-ar c ++ part-cl c
+to-cl c = to-ar c ++ grid (sizes c .m1) (sizes c .n2) (cellIn (start c .args .cl .now))
 
-front-cl : (c : tie.After-slice-known6) → Front (to-cl (at-cl c)) (output (at-cl c)) (output-cl c) (cr (at-cl c))
-front-cl c = span-front (front-ar (c .before .before .before .before)) (known (at-cl c) .cl-run) (part-cl (at-cl c)) (c .before .before .fill-match-ranks .ensures) (length-grid _ _ _)
+abbrev output-cl : tie.After-slice-known6 → List ℕ
+output-cl c = lent cl cr (at-cl c) (output-ar (c .before .before .before .before)) (c .before .before .put-run3 .last .1 .1 .1 .0)
+
+front-cl : (c : tie.After-slice-known6) → FrontTo to-cl cr (at-cl c) (output-cl c)
+front-cl c = span-front (front-ar (c .before .before .before .before)) (known (at-cl c) .cl-run) _ (c .before .before .put-run3 .ensures) (length-grid _ _ _)
 
 abbrev at-cr : tie.After-slice-known7 → tie.After-length
 at-cr c = at-cl (c .before .before .before .before)
 
-abbrev output-cr : tie.After-slice-known7 → List ℕ
-output-cr c = putMid (cr (at-cr c)) (end (at-cr c) - cr (at-cr c)) (output-cl (c .before .before .before .before)) (c .before .before .fill-match-ranks2 .last .1 .1 .1 .0)
-
-abbrev part-cr : tie.After-length → List ℕ
-part-cr c = grid (sizes c .m2) (sizes c .n1) (matchFrom (start c .args .distances2 .now) (sizes c .n1))
-
 abbrev to-cr : tie.After-length → List ℕ
-to-cr c = to-cl c ++ part-cr c
+to-cr c = to-cl c ++ grid (sizes c .m2) (sizes c .n1) (cellIn (start c .args .cr .now))
 
-front-cr : (c : tie.After-slice-known7) → Front (to-cr (at-cr c)) (output (at-cr c)) (output-cr c) (end (at-cr c))
-front-cr c = span-front (front-cl (c .before .before .before .before)) (known (at-cr c) .cr-run) (part-cr (at-cr c)) (c .before .before .fill-match-ranks2 .ensures) (length-grid _ _ _)
+abbrev output-cr : tie.After-slice-known7 → List ℕ
+output-cr c = lent cr end (at-cr c) (output-cl (c .before .before .before .before)) (c .before .before .put-run4 .last .1 .1 .1 .0)
+
+front-cr : (c : tie.After-slice-known7) → FrontTo to-cr end (at-cr c) (output-cr c)
+front-cr c = span-front (front-cl (c .before .before .before .before)) (known (at-cr c) .cr-run) _ (c .before .before .put-run4 .ensures) (length-grid _ _ _)
 
 -- ---- the needs
 
@@ -201,55 +197,65 @@ part-put-rows-end : tie.Need-part-put-rows-end
 part-put-rows-end c = span-end (front-header c) (known (at-header c) .rows-run)
 
 put-rows-requires : tie.Need-put-rows-requires
-put-rows-requires c κs = span-length (front-header (c .before)) (known (at-header (c .before)) .rows-run) ∙ sym (start (at-header (c .before)) .pre .0)
+put-rows-requires c κs =
+    let at = at-header (c .before) in
+    span-length (front-header (c .before)) (known at .rows-run) ∙ sym (start at .pre .0)
 
-sub-fill-stutter-ranks : tie.Need-sub-fill-stutter-ranks
-sub-fill-stutter-ranks c = span-order (known (at-rows c) .al-run)
+sub-put-run : tie.Need-sub-put-run
+sub-put-run c = span-order (known (at-rows c) .al-run)
 
-part-fill-stutter-ranks-start : tie.Need-part-fill-stutter-ranks-start
-part-fill-stutter-ranks-start c = span-order (known (at-rows c) .al-run)
+part-put-run-start : tie.Need-part-put-run-start
+part-put-run-start c = span-order (known (at-rows c) .al-run)
 
-part-fill-stutter-ranks-end : tie.Need-part-fill-stutter-ranks-end
-part-fill-stutter-ranks-end c = span-end (front-rows c) (known (at-rows c) .al-run)
+part-put-run-end : tie.Need-part-put-run-end
+part-put-run-end c = span-end (front-rows c) (known (at-rows c) .al-run)
 
-fill-stutter-ranks-requires : tie.Need-fill-stutter-ranks-requires
-fill-stutter-ranks-requires c κs = (fits (at-rows (c .before)) .n1<, fits (at-rows (c .before)) .n2<, span-length (front-rows (c .before)) (known (at-rows (c .before)) .al-run))
+put-run-requires : tie.Need-put-run-requires
+put-run-requires c κs =
+    let at = at-rows (c .before) in
+    (wide (fits at .n1<), fits at .n2<, span-length (front-rows (c .before)) (known at .al-run))
 
-sub-fill-stutter-ranks-2 : tie.Need-sub-fill-stutter-ranks-2
-sub-fill-stutter-ranks-2 c = span-order (known (at-al c) .ar-run)
+sub-put-run-2 : tie.Need-sub-put-run-2
+sub-put-run-2 c = span-order (known (at-al c) .ar-run)
 
-part-fill-stutter-ranks-start-2 : tie.Need-part-fill-stutter-ranks-start-2
-part-fill-stutter-ranks-start-2 c = span-order (known (at-al c) .ar-run)
+part-put-run-start-2 : tie.Need-part-put-run-start-2
+part-put-run-start-2 c = span-order (known (at-al c) .ar-run)
 
-part-fill-stutter-ranks-end-2 : tie.Need-part-fill-stutter-ranks-end-2
-part-fill-stutter-ranks-end-2 c = span-end (front-al c) (known (at-al c) .ar-run)
+part-put-run-end-2 : tie.Need-part-put-run-end-2
+part-put-run-end-2 c = span-end (front-al c) (known (at-al c) .ar-run)
 
-fill-stutter-ranks-requires-2 : tie.Need-fill-stutter-ranks-requires-2
-fill-stutter-ranks-requires-2 c κs = (fits (at-al (c .before)) .n2<, fits (at-al (c .before)) .n1<, span-length (front-al (c .before)) (known (at-al (c .before)) .ar-run))
+put-run-requires-2 : tie.Need-put-run-requires-2
+put-run-requires-2 c κs =
+    let at = at-al (c .before) in
+    (wide (fits at .n2<), fits at .n1<, span-length (front-al (c .before)) (known at .ar-run))
 
-sub-fill-match-ranks : tie.Need-sub-fill-match-ranks
-sub-fill-match-ranks c = span-order (known (at-ar c) .cl-run)
+sub-put-run-3 : tie.Need-sub-put-run-3
+sub-put-run-3 c = span-order (known (at-ar c) .cl-run)
 
-part-fill-match-ranks-start : tie.Need-part-fill-match-ranks-start
-part-fill-match-ranks-start c = span-order (known (at-ar c) .cl-run)
+part-put-run-start-3 : tie.Need-part-put-run-start-3
+part-put-run-start-3 c = span-order (known (at-ar c) .cl-run)
 
-part-fill-match-ranks-end : tie.Need-part-fill-match-ranks-end
-part-fill-match-ranks-end c = span-end (front-ar c) (known (at-ar c) .cl-run)
+part-put-run-end-3 : tie.Need-part-put-run-end-3
+part-put-run-end-3 c = span-end (front-ar c) (known (at-ar c) .cl-run)
 
-fill-match-ranks-requires : tie.Need-fill-match-ranks-requires
-fill-match-ranks-requires c κs = (fits (at-ar (c .before)) .m1<, fits (at-ar (c .before)) .n2<, span-length (front-ar (c .before)) (known (at-ar (c .before)) .cl-run))
+put-run-requires-3 : tie.Need-put-run-requires-3
+put-run-requires-3 c κs =
+    let at = at-ar (c .before) in
+    (fits at .m1<, fits at .n2<, span-length (front-ar (c .before)) (known at .cl-run))
 
-sub-fill-match-ranks-2 : tie.Need-sub-fill-match-ranks-2
-sub-fill-match-ranks-2 c = span-order (known (at-cl c) .cr-run)
+sub-put-run-4 : tie.Need-sub-put-run-4
+sub-put-run-4 c = span-order (known (at-cl c) .cr-run)
 
-part-fill-match-ranks-start-2 : tie.Need-part-fill-match-ranks-start-2
-part-fill-match-ranks-start-2 c = span-order (known (at-cl c) .cr-run)
+part-put-run-start-4 : tie.Need-part-put-run-start-4
+part-put-run-start-4 c = span-order (known (at-cl c) .cr-run)
 
-part-fill-match-ranks-end-2 : tie.Need-part-fill-match-ranks-end-2
-part-fill-match-ranks-end-2 c = span-end (front-cl c) (known (at-cl c) .cr-run)
+part-put-run-end-4 : tie.Need-part-put-run-end-4
+part-put-run-end-4 c = span-end (front-cl c) (known (at-cl c) .cr-run)
 
-fill-match-ranks-requires-2 : tie.Need-fill-match-ranks-requires-2
-fill-match-ranks-requires-2 c κs = (fits (at-cl (c .before)) .m2<, fits (at-cl (c .before)) .n1<, span-length (front-cl (c .before)) (known (at-cl (c .before)) .cr-run))
+put-run-requires-4 : tie.Need-put-run-requires-4
+put-run-requires-4 c κs =
+    let at = at-cl (c .before) in
+    (fits at .m2<, fits at .n1<, span-length (front-cl (c .before)) (known at .cr-run))
 
 same-length : tie.Need-same-length
 same-length c = front-cr c .len
@@ -280,21 +286,21 @@ write-parts-spec =
     part-put-rows-start
     part-put-rows-end
     put-rows-requires
-    sub-fill-stutter-ranks
-    part-fill-stutter-ranks-start
-    part-fill-stutter-ranks-end
-    fill-stutter-ranks-requires
-    sub-fill-stutter-ranks-2
-    part-fill-stutter-ranks-start-2
-    part-fill-stutter-ranks-end-2
-    fill-stutter-ranks-requires-2
-    sub-fill-match-ranks
-    part-fill-match-ranks-start
-    part-fill-match-ranks-end
-    fill-match-ranks-requires
-    sub-fill-match-ranks-2
-    part-fill-match-ranks-start-2
-    part-fill-match-ranks-end-2
-    fill-match-ranks-requires-2
+    sub-put-run
+    part-put-run-start
+    part-put-run-end
+    put-run-requires
+    sub-put-run-2
+    part-put-run-start-2
+    part-put-run-end-2
+    put-run-requires-2
+    sub-put-run-3
+    part-put-run-start-3
+    part-put-run-end-3
+    put-run-requires-3
+    sub-put-run-4
+    part-put-run-start-4
+    part-put-run-end-4
+    put-run-requires-4
     same-length
     returns)

@@ -92,7 +92,9 @@ returns-2 c =
     (search needs, rw (take-put (l .n) _ (l .input) (read .last .0) (l .inv .0)) (ended _ _ (l .inv .2) a (leZ-yes (passes _ (c .if2 .taken)))))
 
 -- what came where reading goes on
-came : (c : tie.Else2 Inv-loop μ-loop) → let l = c .before .before .before .before .before .before .before .before .loop in let r = c .before .before .before .read-once in
+came : (c : tie.Else2 Inv-loop μ-loop)
+    → let l = c .before .before .before .before .before .before .before .before .loop in
+    let r = c .before .before .before .read-once in
     Came (missingOf (take (l .n) (l .input))) (toZ w64 (ofZ w64 (r .result))) (r .last .0)
 came c = call-came (asked (c .before .before .before)) (c .if2 .left)
 

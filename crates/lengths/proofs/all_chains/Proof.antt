@@ -2,18 +2,19 @@
 use Prim.Native.Nat.{ℕ, _≤_, _<_, _-_}
 use native.Mathlib.Omega.{arith}
 use lib.ListN.{replicate, length-replicate}
-use borrow.Author.Needs.{needs}
 use Rattle.lists.proofs.FillLaws.{Rows, rows-none, rows-all}
+use Rattle.sides.specs.Views.{viewIn}
 use Rattle.lengths.specs.Chains.{chainBy}
 use Rattle.lengths.proofs.CellLaws.{rows-room, rows-part, rows-put}
+use borrow.Author.Needs.{needs}
 use Rattle.lengths.proofs.all_chains.Statement.{statement}
 use Rattle.lengths.proofs.all_chains.Tie as tie
 
 abbrev Inv-loop : tie.InvT-loop
-Inv-loop related own distances n k at₀ a₀ t₀ at a t = Rows t a 64 (chainBy related own distances n k) (replicate 4096 0) at × (t ≤ 64)
+Inv-loop ours theirs distances at₀ a₀ t₀ at a t = Rows t a 64 (chainBy (viewIn ours theirs) distances) (replicate 4096 0) at × (t ≤ 64)
 
 abbrev μ-loop : tie.MeasureT-loop
-μ-loop related own distances n k at₀ a₀ t₀ at a t = 64 - t
+μ-loop ours theirs distances at₀ a₀ t₀ at a t = 64 - t
 
 loop-holds : tie.Need-loop-holds Inv-loop μ-loop
 loop-holds c = (rows-none 64 _ (replicate 4096 0), omega arith)
@@ -45,8 +46,9 @@ loop-less c = omega arith
 
 loop-again : tie.Need-loop-again Inv-loop μ-loop
 loop-again c =
-    let h : c .before .before .before .before .before .loop .t < 64 = omega (arith, c .before .before .before .before .loop-test .taken) in
-    (rows-put 64 (c .before .before .before .before .before .loop .inv .0) (length-replicate {A = ℕ} 4096 0) h (c .before .before .before .chains-at .ensures) (c .before .put .ensures), omega arith)
+    let l = c .before .before .before .before .before .loop in
+    let h : l .t < 64 = omega (arith, c .before .before .before .before .loop-test .taken) in
+    (rows-put 64 (l .inv .0) (length-replicate {A = ℕ} 4096 0) h (c .before .before .before .chains-at .ensures) (c .before .put .ensures), omega arith)
 
 returns : tie.Need-returns Inv-loop μ-loop
 returns c = rows-all 64 (c .before .loop .inv .0) (omega arith) (length-replicate {A = ℕ} 4096 0)

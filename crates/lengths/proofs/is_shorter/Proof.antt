@@ -36,9 +36,11 @@ add-if3 c = omega arith
 returns-3 : tie.Need-returns-3
 unfolding shortens
 returns-3 c =
+    let if1 = c .before .before .before .before .before .before .if1 in
+    let if2 = c .before .before .before .before .before .if2 in
     let s = c .before .before .before .before .before .before .before in
     let h : getD (now (s .args .row)) (s .args .x) 0 ≤ getD (now (s .args .row)) (s .args .y) 0 + 1 = omega arith in
-    simp (lt-ltb _ _ (c .before .before .before .before .before .before .if1 .left), lt-ltb _ _ (c .before .before .before .before .before .if2 .left), le-ltb _ _ h)
+    simp (lt-ltb _ _ (if1 .left), lt-ltb _ _ (if2 .left), le-ltb _ _ h)
 
 has-requires : tie.Need-has-requires
 has-requires c κs = search needs
@@ -46,9 +48,11 @@ has-requires c κs = search needs
 returns-4 : tie.Need-returns-4
 unfolding shortens
 returns-4 c =
+    let if1 = c .before .before .before .before .before .before .before .if1 in
+    let if2 = c .before .before .before .before .before .before .if2 in
     let s = c .before .before .before .before .before .before .before .before in
     let h : getD (now (s .args .row)) (s .args .y) 0 + 1 < getD (now (s .args .row)) (s .args .x) 0 = omega arith in
-    c .has .ensures ∙ sym (simp (lt-ltb _ _ (c .before .before .before .before .before .before .before .if1 .left), lt-ltb _ _ (c .before .before .before .before .before .before .if2 .left), lt-ltb _ _ h))
+    c .has .ensures ∙ sym (simp (lt-ltb _ _ (if1 .left), lt-ltb _ _ (if2 .left), lt-ltb _ _ h))
 
 pub is-shorter-spec : {M : Type 1} → statement M
 is-shorter-spec =

@@ -12,7 +12,9 @@ has-requires c κs = search needs
 
 returns : tie.Need-returns
 unfolding staysAt
-returns c = c .has .ensures ∙ ap (λ (b : Bool). b && hasBit (c .before .before .before .args .facing .to .0) (c .before .before .before .args .t)) (sym (c .before .before .if1 .taken))
+returns c =
+    let a = c .before .before .before .args in
+    c .has .ensures ∙ ap (λ (b : Bool). b && hasBit (a .facing .to .0) (a .t)) (sym (c .before .before .if1 .taken))
 
 returns-2 : tie.Need-returns-2
 unfolding staysAt

@@ -42,8 +42,11 @@ returns-2 : tie.Need-returns-2
 unfolding numbersOf hasRoom answered
 returns-2 c =
     let a = c .before .args in
-    let l = now (a .places) in
-    (sym (le-leb 6 (length l) (c .if1 .left)), sets-eq (numbersOf (a .numbers)) l 0 (c .if1 .left) ∙ sym (put-front-fits (numbersOf (a .numbers)) l (c .if1 .left)))
+    let l = now (a .places) in (
+      sym (le-leb 6 (length l) (c .if1 .left)),
+      sets-eq (numbersOf (a .numbers)) l 0 (c .if1 .left)
+          ∙ sym (put-front-fits (numbersOf (a .numbers)) l (c .if1 .left)),
+    )
 
 pub put-numbers-spec : {M : Type 1} → statement M
 put-numbers-spec =

@@ -47,7 +47,9 @@ returns : tie.Need-returns Inv-loop μ-loop
 returns c =
     let l = c .before .before .before .before .before .loop in
     let a = c .before .before .before .before .before .before .before .args in
-    let d = met-doubled (now (a .steps)) (l .j) (l .met) (l .inv .2) (c .before .before .before .from .ensures .0) (c .before .before .to .ensures .0) (c .before .before .before .from .ensures .1) (c .before .before .to .ensures .1) in
+    let d = met-doubled (now (a .steps)) (l .j) (l .met) (l .inv .2)
+    (c .before .before .before .from .ensures .0) (c .before .before .to .ensures .0)
+    (c .before .before .before .from .ensures .1) (c .before .before .to .ensures .1) in
     sym (first-hit _ (l .j) (a .m) (l .inv .1) (omega arith) (d ∙ sym (c .before .has .ensures) ∙ c .if1 .taken))
 
 add-requires : tie.Need-add-requires Inv-loop μ-loop
@@ -71,8 +73,11 @@ loop-again c =
     let a = c .before .before .before .before .before .before .before .before .args in
     let s = c .before .before .before .before .from .ensures in
     let u = c .before .before .before .to .ensures in
-    let d = met-doubled (now (a .steps)) (l .j) (l .met) (l .inv .2) (s .0) (u .0) (s .1) (u .1) in
-    (omega arith, first-miss _ (l .j) (l .inv .1) (d ∙ sym (c .before .before .has .ensures) ∙ c .before .if1 .left), met-more (now (a .steps)) (l .j) (l .met) (l .inv .2) (s .0) (u .0) (s .1) (u .1) (c .add .ensures))
+    let d = met-doubled (now (a .steps)) (l .j) (l .met) (l .inv .2) (s .0) (u .0) (s .1) (u .1) in (
+      omega arith,
+      first-miss _ (l .j) (l .inv .1) (d ∙ sym (c .before .before .has .ensures) ∙ c .before .if1 .left),
+      met-more (now (a .steps)) (l .j) (l .met) (l .inv .2) (s .0) (u .0) (s .1) (u .1) (c .add .ensures),
+    )
 
 returns-2 : tie.Need-returns-2 Inv-loop μ-loop
 returns-2 c =

@@ -22,7 +22,8 @@ by-header s e = ap (withSteps s) e
 by-steps : (c : tie.After-steps)
     → readTable (now (c .before .before .before .before .before .before .args .s)) ≡ readSteps (c .before .before .read .given .0 .0) (now (c .steps .result))
 by-steps c =
-    by-header (now (c .before .before .before .before .before .before .args .s)) (sym (c .before .before .before .before .read-header .ensures) ∙ c .before .before .read .given .1)
+    by-header (now (c .before .before .before .before .before .before .args .s))
+    (sym (c .before .before .before .before .read-header .ensures) ∙ c .before .before .read .given .1)
     ∙ ap (readSteps _) (sym (c .steps .ensures))
 
 module _ (h : Head) (l : List ℕ) (o : ℕ) (oe : o ≡ firstBelow (h .steps) (endsOutside l (h .states))) where

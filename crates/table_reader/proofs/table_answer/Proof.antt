@@ -20,7 +20,9 @@ answer-requires : tie.Need-answer-requires
 answer-requires c κs = search needs
 
 returns-2 : tie.Need-returns-2
-returns-2 c = c .answer .ensures ∙ sym (ap (λ (x : TableRead). refusalOf (tableVerdict (c .before .before .before .before .args .file) x)) (c .before .before .read .given .1))
+returns-2 c =
+    c .answer .ensures
+    ∙ sym (ap (λ (x : TableRead). refusalOf (tableVerdict (c .before .before .before .before .args .file) x)) (c .before .before .read .given .1))
 
 pub table-answer-spec : {M : Type 1} → statement M
 table-answer-spec =

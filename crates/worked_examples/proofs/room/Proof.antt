@@ -13,19 +13,19 @@ length-positive z =
     let h : 0 < 11 + 8 * z .n1 + 2 * (z .n1 * z .n2) + z .m1 * z .n2 + z .m2 * z .n1 = omega arith in
     h
 
-of-requires : tie.Need-of-requires
-of-requires c κs = search needs
+sizes-of-requires : tie.Need-sizes-of-requires
+sizes-of-requires c κs = search needs
 
 length-requires : tie.Need-length-requires
 length-requires c κs = search needs
 
 returns : tie.Need-returns
 returns c =
-    let h = length-positive (c .before .before .of .result) in
+    let h = length-positive (c .before .before .sizes-of .result) in
     (omega (arith, h), search needs)
 
 returns-2 : tie.Need-returns-2
 returns-2 c = search needs
 
 pub room-spec : {M : Type 1} → statement M
-room-spec = tie.close (tie.spec of-requires length-requires returns returns-2)
+room-spec = tie.close (tie.spec sizes-of-requires length-requires returns returns-2)

@@ -1,4 +1,5 @@
--- `certificate_reader::CertificateRefusal::answer` meets its contract: each arm gives the code and the row that the definition gives for its case. Assumes nothing.
+-- `certificate_reader::CertificateRefusal::answer` meets its contract: each arm gives the code and the row that the definition gives for its case.
+-- Assumes nothing.
 use borrow.Author.Needs.{needs}
 use Rattle.certificate_reader.proofs.CertificateRefusal.answer.Statement.{statement}
 use Rattle.certificate_reader.proofs.CertificateRefusal.answer.Tie as tie

@@ -1,4 +1,5 @@
--- `certificate_reader::RelationRefusal::answer` meets its contract: each arm gives the code and the row that the definition gives for its case. Assumes nothing.
+-- `certificate_reader::RelationRefusal::answer` meets its contract: each arm gives the code and the row that the definition gives for its case.
+-- Assumes nothing.
 use borrow.Author.Needs.{needs}
 use Rattle.certificate_reader.proofs.RelationRefusal.answer.Statement.{statement}
 use Rattle.certificate_reader.proofs.RelationRefusal.answer.Tie as tie

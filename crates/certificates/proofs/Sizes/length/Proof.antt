@@ -1,4 +1,5 @@
--- `certificates::Sizes::length` meets its contract: CR ends m2 times n1 bytes after it begins, and the sizes are one or two bytes, so the sum fits. Assumes nothing.
+-- `certificates::Sizes::length` meets its contract: CR ends m2 times n1 bytes after it begins, and the sizes are one or two bytes, so the sum fits.
+-- Assumes nothing.
 use native.Mathlib.Omega.{arith}
 use borrow.Author.Needs.{needs}
 use Rattle.certificates.specs.Layout.{crAt, certificateLength}

@@ -1,7 +1,7 @@
 -- `checker::Tally::add` meets its contract: the clause's count is one more. Assumes nothing.
 use mathlib.Core.Path.{sym, ap}
 use borrow.Author.Needs.{needs}
-use Rattle.checker.specs.Progress.{addTo}
+use Rattle.checker.specs.Tallies.{addTo}
 use Rattle.checker.proofs.Tally.add.Statement.{statement}
 use Rattle.checker.proofs.Tally.add.Tie as tie
 

@@ -54,8 +54,12 @@ loop-less c = search needs
 
 loop-again : tie.Need-loop-again Inv-loop μ-loop
 loop-again c =
-    let l = c .before .loop in
-    (omega arith, l .inv .1, length-set (l .output) (l .i - 1) (l .x % 256) ∙ l .inv .2, one-less (l .i) (l .x) (l .output) (omega arith) (omega arith) ∙ l .inv .3)
+    let l = c .before .loop in (
+      omega arith,
+      l .inv .1,
+      length-set (l .output) (l .i - 1) (l .x % 256) ∙ l .inv .2,
+      one-less (l .i) (l .x) (l .output) (omega arith) (omega arith) ∙ l .inv .3,
+    )
 
 same-length : tie.Need-same-length Inv-loop μ-loop
 same-length c = search needs
@@ -66,7 +70,9 @@ returns-2 c =
     let a = c .before .before .before .args in
     let l = c .before .loop in
     let none : l .i ≡ 0 = omega arith in
-    sym (ap (λ (i : ℕ). bigBytes i (l .x) ++ drop i (l .output)) none) ∙ l .inv .3 ∙ sym (put-front-fits (bigBytes 8 (a .self .0)) (a .output .now) (omega arith))
+    sym (ap (λ (i : ℕ). bigBytes i (l .x) ++ drop i (l .output)) none)
+    ∙ l .inv .3
+    ∙ sym (put-front-fits (bigBytes 8 (a .self .0)) (a .output .now) (omega arith))
 
 pub write-spec : {M : Type 1} → statement M
 write-spec =

@@ -1,0 +1,167 @@
+-- Laws of what is read off two sides: the checks in judging order, the starts and one obligation are those of the view that the sides hold; how many steps
+-- there can be from a state, and where the runs of ranks lie. Assumes nothing.
+use Prim.Native.Nat.{ℕ, zero, suc, _+_, _*_, _^_, _≤_, _<_}
+use mathlib.Core.Path.{_≡_, refl, sym, ap, ap₂, fun-ext, _∙_}
+use mathlib.Core.Bool.{Bool, true, false, cond, _&&_, and-true}
+use mathlib.Core.List.{List, [], _∷_}
+use native.Mathlib.Nat.{add-assoc, mul-le-mul}
+use native.Mathlib.Omega.{arith}
+use lib.Bits.{bitAnd}
+use lib.Dec.{ltb, eqb}
+use lib.ListN.{length}
+use lib.Seq.{getD-drop}
+use borrow.Author.Tests.{lt-ltb, le-ltb}
+use Rattle.lists.specs.Below.{anyBelow}
+use Rattle.lists.specs.Numbers.{byteAt}
+use Rattle.lists.proofs.BelowLaws.{any-cong}
+use Rattle.words.specs.Bits.{hasBit, firstBit}
+use Rattle.bisimulation.specs.Systems.{Ranks}
+use Rattle.certificates.specs.declared.Sizes.{Sizes}
+use Rattle.certificates.specs.Layout.{alAt, arAt, clAt, crAt}
+use Rattle.certificates.proofs.LayoutLaws.{products-fit}
+use Rattle.sides.specs.Side.{systemIn, startIn, relatedTo, enteredFrom, linkedFrom, nextStep, stepsIn}
+use Rattle.sides.specs.Views.{viewIn}
+use Rattle.sides.specs.Built.{Linked}
+use Rattle.obligations.specs.declared.Checked.the-variants.{Passed, Refused}
+use Rattle.obligations.specs.declared.Clause.the-variants.{Step}
+use Rattle.obligations.specs.declared.Outcome.the-variants.{Met}
+use Rattle.obligations.specs.declared.Run.{Run}
+use Rattle.obligations.specs.CheckAnswers.{startsAnswer}
+use Rattle.obligations.specs.Obligation.{withoutStep, obligationOf, obligationAt}
+use Rattle.obligations.proofs.ObligationLaws.{Faces, Ranked}
+use Rattle.obligations.specs.Judging.{checksBy, checks, startsVerdict}
+use Rattle.obligations.specs.OnSides.{checksIn, startsIn, asChecked, stutterAt, matchRow, facingIn, obligationIn}
+use Rattle.obligations.proofs.ObligationLaws.{obligation-is}
+
+-- ---- the checks
+
+-- at most k steps are met along k links, and 256 from a state
+linked-few : (side : List ℕ) (k j : ℕ) → length (linkedFrom side k j) ≤ k
+unfolding linkedFrom
+linked-few side zero j = omega arith
+linked-few side (suc k) j = when (ltb j 256) _ (linked-few side k (nextStep side j))
+  where
+    when : (b : Bool) (l : List ℕ) → length l ≤ k → length (cond b (j ∷ l) []) ≤ suc k
+    when true l h = omega arith
+    when false l h = omega arith
+
+pub steps-few : (side : List ℕ) (s : ℕ) → length (stepsIn side s) ≤ 256
+unfolding stepsIn
+steps-few side s = linked-few side 256 _
+
+-- in sides of tables that are read they are the theory's
+pub checks-in : {ours theirs : List ℕ} → Linked ours → Linked theirs → checksIn ours theirs ≡ checks (viewIn ours theirs)
+unfolding checksIn checks
+checks-in {ours} {theirs} a b =
+    ap₂ (checksBy (systemIn ours .states) (systemIn theirs .states) (viewIn ours theirs .related)) (fun-ext (a .steps-are)) (fun-ext (b .steps-are))
+
+-- ---- the starts
+
+module _ (ours theirs : List ℕ) {s t word : ℕ} (es : s ≡ startIn ours) (et : t ≡ startIn theirs) (ew : word ≡ relatedTo ours s) where
+  word-is : hasBit word t ≡ viewIn ours theirs .related (startIn ours) (startIn theirs)
+  word-is = ap₂ hasBit (ew ∙ ap (relatedTo ours) es) et
+
+  pub starts-pass : hasBit word t ≡ true → Passed ≡ asChecked (startsIn ours theirs)
+  unfolding startsVerdict
+  starts-pass e = sym (rw (sym word-is ∙ e))
+
+  pub starts-differ : hasBit word t ≡ false → Refused (startsAnswer s t) ≡ asChecked (startsIn ours theirs)
+  unfolding startsVerdict
+  starts-differ e = sym (rw (sym word-is ∙ e, es, et))
+
+-- ---- the ranks
+
+-- a product of two bytes is small
+pub product-small : (a b : ℕ) → a < 256 → b < 256 → a * b ≤ 255 * 255
+product-small a b h k = mul-le-mul (let z : a ≤ 255 = omega arith in z) (let z : b ≤ 255 = omega arith in z)
+
+-- whatever the sizes are, the runs begin below 2 to the power 32
+pub record RunsLow (z : Sizes) : Type 0 where
+  pub al< : alAt z < 2 ^ 32
+  pub ar< : arAt z < 2 ^ 32
+  pub cl< : clAt z < 2 ^ 32
+  pub cr< : crAt z < 2 ^ 32
+
+pub runs-low : (z : Sizes) → z .n1 < 256 → z .n2 < 256 → z .m1 < 65536 → z .m2 < 65536 → RunsLow z
+unfolding alAt arAt clAt crAt
+runs-low z a b c d =
+    let p = products-fit {n = 255} {m = 65535} z (omega arith) (omega arith) (omega arith) (omega arith) in
+    record { al< = omega arith; ar< = omega arith; cl< = omega arith; cr< = omega arith }
+
+-- The ranks of a side stand in a certificate where its runs begin.
+pub record RanksAt (certificate : List ℕ) (run : Run) (r : Ranks) : Type 0 where
+  pub stutter-are : (s t : ℕ) → s < 64 → t < 64 → byteAt certificate (run .stutter + (s * run .states + t)) ≡ r .stutter s t
+  pub match-are : (j t : ℕ) → byteAt certificate (run .matches + (j * run .states + t)) ≡ r .match j t
+
+module _ (certificate : List ℕ) (run : Run) (r : Ranks) (at : RanksAt certificate run r) where
+  stutter-is : (s t : ℕ) → s < 64 → t < 64 → stutterAt certificate run s t ≡ r .stutter s t
+  unfolding stutterAt
+  stutter-is s t h k = rw (lt-ltb s 64 h, lt-ltb t 64 k) (at .stutter-are s t h k)
+
+  match-is : (j t : ℕ) → j < 256 → byteAt (matchRow certificate run j) t ≡ r .match j t
+  unfolding matchRow
+  match-is j t h =
+      rw (lt-ltb j 256 h)
+      (getD-drop (run .matches + j * run .states) certificate t 0 ∙ ap (byteAt certificate) (add-assoc (run .matches) (j * run .states) t) ∙ at .match-are j t)
+
+-- ---- one obligation
+
+module _ (ours theirs certificate : List ℕ) (run : Run) (j t : ℕ) where
+  module _ {u target entering met : ℕ} (eu : u ≡ systemIn ours .to j) (et : target ≡ relatedTo ours u) (en : entering ≡ enteredFrom theirs t)
+      (em : met ≡ firstBit (bitAnd entering target)) where
+    met-is : met ≡ firstBit (bitAnd (enteredFrom theirs t) (relatedTo ours (systemIn ours .to j)))
+    met-is = em ∙ ap₂ (λ (x y : ℕ). firstBit (bitAnd x y)) en (et ∙ ap (relatedTo ours) eu)
+
+    -- 2a holds
+    pub by-step : met < 64 → Met Step ≡ obligationIn ours theirs certificate run j t
+    unfolding obligationIn obligationOf
+    by-step h = let k = rw met-is at h in sym (rw (lt-ltb _ 64 k))
+
+    -- it does not
+    pub by-rank : {s source before after : ℕ} {ranks : List ℕ} → 64 ≤ met → s ≡ systemIn ours .from j → source ≡ relatedTo ours s
+        → before ≡ stutterAt certificate run s t → after ≡ stutterAt certificate run u t → ranks ≡ matchRow certificate run j
+        → withoutStep
+        (record {
+          from = record { 0 = source };
+          to = record { 0 = target };
+          serving = record { 0 = entering };
+          silent = record { 0 = entering };
+          quiet = true;
+        })
+        t before after ranks
+        ≡ obligationIn ours theirs certificate run j t
+    unfolding obligationIn obligationOf
+    by-rank h es ef eb ea er = let k = rw met-is at h in sym (rw (le-ltb _ 64 k) (sym (rw (eb, ea, er, ef, es, et, eu, en))))
+
+  -- in sides of tables that are read, with the ranks of the certificate, it has the theory's outcome
+  module _ (r : Ranks) (a : Linked ours) (b : Linked theirs) (at : RanksAt certificate run r) (h : t < 64) (l : j < systemIn ours .steps) where
+    entered-is : (u : ℕ)
+        → hasBit (enteredFrom theirs t) u ≡ anyBelow (systemIn theirs .steps) (λ k. eqb (systemIn theirs .from k) t && true && eqb (systemIn theirs .to k) u)
+    entered-is u =
+        b .entered-are t u
+        ∙ any-cong _ _ _ (λ k _. ap (λ (x : Bool). x && eqb (systemIn theirs .to k) u) (sym (and-true (eqb (systemIn theirs .from k) t))))
+
+    faces : Faces (viewIn ours theirs) j t (facingIn ours theirs j t)
+    faces =
+        record {
+          related-from = λ x. refl;
+          related-to = λ x. refl;
+          serving = entered-is;
+          silent = entered-is;
+          quiet = refl;
+          serving< = b .entered< t;
+          silent< = b .entered< t;
+        }
+
+    ranked : Ranked (viewIn ours theirs) r j t
+        (stutterAt certificate run (systemIn ours .from j) t) (stutterAt certificate run (systemIn ours .to j) t) (matchRow certificate run j)
+    ranked =
+        record {
+          before-is = stutter-is certificate run r at _ t (a .from< j l) h;
+          after-is = stutter-is certificate run r at _ t (a .to< j l) h;
+          ranks-are = λ x. match-is certificate run r at j x (omega arith);
+        }
+
+    pub obligation-in : obligationIn ours theirs certificate run j t ≡ obligationAt (viewIn ours theirs) r j t
+    unfolding obligationIn
+    obligation-in = obligation-is (viewIn ours theirs) r j t _ faces _ _ _ ranked

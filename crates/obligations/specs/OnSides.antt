@@ -1,0 +1,69 @@
+-- What is read off two sides and a certificate: the checks in judging order, the starts, and one obligation with its ranks.
+use Prim.Native.Nat.{ℕ, _+_, _*_}
+use mathlib.Core.Bool.{true, cond, _&&_}
+use mathlib.Core.List.{List, []}
+use lib.Dec.{ltb}
+use lib.ListN.{drop}
+use Rattle.lists.specs.Numbers.{byteAt}
+use Rattle.tables.specs.Table.{maxStates, maxSteps}
+use Rattle.certificates.specs.Layout.{alAt, arAt, clAt, crAt}
+use Rattle.certificates.specs.declared.Sizes.{Sizes}
+use Rattle.answers.specs.Verdicts.{Verdict, goOn, refusedWith}
+use Rattle.sides.specs.Side.{systemIn, startIn, relatedTo, enteredFrom, stepsIn}
+use Rattle.sides.specs.Views.{viewIn}
+use Rattle.obligations.specs.Obligation.{obligationOf}
+use Rattle.obligations.specs.Judging.{Check, checksBy, startsVerdict}
+use Rattle.obligations.specs.declared.Checked.{Checked}
+use Rattle.obligations.specs.declared.Checked.the-variants.{Passed, Refused}
+use Rattle.obligations.specs.declared.Facing.{Facing}
+use Rattle.obligations.specs.declared.Outcome.{Outcome}
+use Rattle.obligations.specs.declared.Run.{Run}
+
+-- The checks of the related pairs, the steps in the order in which the links lead along them.
+unfoldable pub checksIn : (ours theirs : List ℕ) → List Check
+checksIn ours theirs = checksBy (systemIn ours .states) (systemIn theirs .states) (viewIn ours theirs .related) (stepsIn ours) (stepsIn theirs)
+
+-- The verdict on the starts.
+abbrev pub startsIn : (ours theirs : List ℕ) → Verdict (Unit {0})
+startsIn ours theirs = startsVerdict (viewIn ours theirs) (startIn ours) (startIn theirs)
+
+-- The code's enum for a verdict that finds nothing.
+abbrev pub asChecked : Verdict (Unit {0}) → Checked
+asChecked (goOn x) = Passed
+asChecked (refusedWith answer) = Refused answer
+
+-- ---- the ranks
+
+-- Where the runs of a side begin in a certificate, with the other side's number of states.
+abbrev pub leftRun : Sizes → Run
+leftRun z = record { stutter = alAt z; matches = clAt z; states = z .n2 }
+
+abbrev pub rightRun : Sizes → Run
+rightRun z = record { stutter = arAt z; matches = crAt z; states = z .n1 }
+
+-- The A rank of s at t; a state of 64 or more has rank 0.
+unfoldable pub stutterAt : List ℕ → Run → ℕ → ℕ → ℕ
+stutterAt certificate run s t = cond (ltb s maxStates && ltb t maxStates) (byteAt certificate (run .stutter + (s * run .states + t))) 0
+
+-- The certificate from the C ranks of step j on; a step of 256 or more has none.
+unfoldable pub matchRow : List ℕ → Run → ℕ → List ℕ
+matchRow certificate run j = cond (ltb j maxSteps) (drop (run .matches + j * run .states) certificate) []
+
+-- ---- one obligation
+
+module _ (ours theirs : List ℕ) where
+  -- What the obligation of our step j at t looks at.
+  abbrev pub facingIn : ℕ → ℕ → Facing
+  facingIn j t =
+      record {
+        from = record { 0 = relatedTo ours (systemIn ours .from j) };
+        to = record { 0 = relatedTo ours (systemIn ours .to j) };
+        serving = record { 0 = enteredFrom theirs t };
+        silent = record { 0 = enteredFrom theirs t };
+        quiet = true;
+      }
+
+  unfoldable pub obligationIn : List ℕ → Run → ℕ → ℕ → Outcome
+  obligationIn certificate run j t =
+      obligationOf (facingIn j t) t (stutterAt certificate run (systemIn ours .from j) t) (stutterAt certificate run (systemIn ours .to j) t)
+      (matchRow certificate run j)

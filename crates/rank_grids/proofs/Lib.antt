@@ -1,0 +1,2 @@
+-- Laws of the grids of ranks.
+pub mod RankGridLaws

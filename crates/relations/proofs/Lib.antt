@@ -1,2 +1,0 @@
--- Laws of the relation as words.
-pub mod RelationLaws

@@ -1,2 +1,0 @@
--- The relation as words.
-pub mod Relation

@@ -1,0 +1,182 @@
+-- Laws of building a side: header and states, then the ends of the steps; and that the links then make it whole. Assumes nothing.
+use Prim.Native.Nat.{ℕ, _+_, _≤_, _<_, min}
+use mathlib.Core.Path.{_≡_, refl, sym, ap, _∙_, fun-ext}
+use mathlib.Core.Bool.{Bool, true, false, cond}
+use mathlib.Core.List.{List}
+use native.Mathlib.Omega.{arith}
+use native.Mathlib.Decide.{decLt}
+use lib.Dec.{T, ltb}
+use lib.ListN.{length, getD}
+use Rattle.lists.specs.Lists.{tabulate}
+use Rattle.lists.proofs.FillLaws.{length-tabulate, getD-tabulate, getD-past}
+use Rattle.tables.specs.declared.Head.{Head}
+use Rattle.tables.specs.Table.{labelOf, fromOf, toOf}
+use Rattle.sides.specs.Side.{Region, cellAt, relatedPart, enteredPart, firstPart, labelPart, fromPart, toPart, headPart, systemIn}
+use Rattle.sides.specs.Built.{FilledUpTo, SideOf}
+use Rattle.sides.specs.Building.{putAt, apart, sideWords, Empty, StatesIn, EndsIn, Unlinked, LinksIn}
+use Rattle.sides.proofs.StoreLaws.{put-length, put-same, put-other, put-apart, kept-none, kept-more, fill-apart, fill-none, fill-more}
+
+-- ---- the states
+
+cond-zero : (b : Bool) {x : ℕ} → x ≡ 0 → cond b x 0 ≡ 0
+cond-zero true e = e
+cond-zero false e = refl
+
+zeros : (n i : ℕ) → getD (tabulate n (λ _. 0)) i 0 ≡ 0
+zeros n i = elim (decLt i n) [ yes l ↦ getD-tabulate n i (λ _. 0) l | no l ↦ getD-past (tabulate n (λ _. 0)) i (rw length-tabulate (omega arith)) ]
+
+pub record StatesUpTo (labels words : List ℕ) (n : ℕ) (l : List ℕ) : Type 0 where
+  pub below : n ≤ 64
+  pub room : length l ≡ sideWords
+  pub related-are : FilledUpTo relatedPart (λ s. getD words s 0) n l
+  pub no-first : FilledUpTo firstPart (λ s. 256) n l
+  pub labels-are : FilledUpTo labelPart (labelOf labels) n l
+  pub others : (q : Region) → T (apart relatedPart q) × T (apart firstPart q) × T (apart labelPart q) → Empty q l
+
+pub states-start : (labels words : List ℕ) {l : List ℕ} → l ≡ tabulate 1088 (λ _. 0) → StatesUpTo labels words 0 l
+unfolding cellAt
+states-start labels words {l} e =
+    record {
+      below = omega arith;
+      room = ap length e ∙ length-tabulate 1088 (λ _. 0);
+      related-are = fill-none relatedPart _ (none relatedPart);
+      no-first = fill-none firstPart _ (none firstPart);
+      labels-are = fill-none labelPart _ (none labelPart);
+      others = λ q o. none q;
+    }
+  where
+    none : (q : Region) → Empty q l
+    none q = record { zeros-are = λ i. cond-zero (ltb i (q .size)) (ap (λ (x : List ℕ). getD x (q .base + i) 0) e ∙ zeros 1088 (q .base + i)) }
+
+pub states-more : {labels words : List ℕ} {n : ℕ} {l : List ℕ} (word label : ℕ) → StatesUpTo labels words n l → n < 64 → word ≡ getD words n 0
+    → label ≡ labelOf labels n
+    → StatesUpTo labels words (n + 1) (putAt labelPart (putAt firstPart (putAt relatedPart l n word) n 256) n label)
+states-more {labels} {words} {n} {l} word label w h e f =
+    let l1 = putAt relatedPart l n word in
+    let l2 = putAt firstPart l1 n 256 in
+    let r = w .room in
+    let r1 : length l1 ≡ sideWords = put-length relatedPart l n word ∙ r in
+    let r2 : length l2 ≡ sideWords = put-length firstPart l1 n 256 ∙ r1 in
+    record {
+      below = omega arith;
+      room = put-length labelPart l2 n label ∙ r2;
+      related-are = fill-apart labelPart l2 n label relatedPart tt
+          (fill-apart firstPart l1 n 256 relatedPart tt (fill-more relatedPart word (w .related-are) h (omega arith) e));
+      no-first = fill-apart labelPart l2 n label firstPart tt
+          (fill-more firstPart 256 (fill-apart relatedPart l n word firstPart tt (w .no-first)) h (omega arith) refl);
+      labels-are = fill-more labelPart label
+          (fill-apart firstPart l1 n 256 labelPart tt (fill-apart relatedPart l n word labelPart tt (w .labels-are))) h (omega arith) f;
+      others = λ q o. record {
+        zeros-are = λ i. put-apart labelPart l2 n label q (o .2) i ∙ put-apart firstPart l1 n 256 q (o .1) i
+            ∙ put-apart relatedPart l n word q (o .0) i ∙ w .others q o .zeros-are i;
+      };
+    }
+
+pub states-next : {labels words : List ℕ} {n : ℕ} {l l1 l2 l3 : List ℕ} {word label : ℕ} → StatesUpTo labels words n l → n < 64 → word ≡ getD words n 0
+    → label ≡ labelOf labels n
+    → l1 ≡ putAt relatedPart l n word → l2 ≡ putAt firstPart l1 n 256 → l3 ≡ putAt labelPart l2 n label → StatesUpTo labels words (n + 1) l3
+states-next {word = word} {label = label} w h e f p q r = rw (r, q, p) (states-more word label w h e f)
+
+-- and the header
+pub states-end : {labels words l : List ℕ} {n : ℕ} (h : Head) → StatesUpTo labels words n l → 64 ≤ n
+    → StatesIn h labels words (putAt headPart (putAt headPart (putAt headPart l 0 (h .states)) 1 (h .steps)) 2 (h .initial .0))
+states-end {labels} {words} {l} {n} h w b =
+    let l1 = putAt headPart l 0 (h .states) in
+    let l2 = putAt headPart l1 1 (h .steps) in
+    let e : n ≡ 64 = let c = w .below in omega arith in
+    let r = w .room in
+    let r1 : length l1 ≡ sideWords = put-length headPart l 0 (h .states) ∙ r in
+    let r2 : length l2 ≡ sideWords = put-length headPart l1 1 (h .steps) ∙ r1 in
+    record {
+      room = put-length headPart l2 2 (h .initial .0) ∙ r2;
+      states-is = put-other headPart l2 2 (h .initial .0) 0 (λ z. omega arith) ∙ put-other headPart l1 1 (h .steps) 0 (λ z. omega arith)
+          ∙ put-same headPart l 0 (h .states) (omega arith) (omega arith);
+      steps-is = put-other headPart l2 2 (h .initial .0) 1 (λ z. omega arith) ∙ put-same headPart l1 1 (h .steps) (omega arith) (omega arith);
+      initial-is = put-same headPart l2 2 (h .initial .0) (omega arith) (omega arith);
+      related-are = on relatedPart tt (rw e at (w .related-are));
+      labels-are = on labelPart tt (rw e at (w .labels-are));
+      no-first = on firstPart tt (rw e at (w .no-first));
+      no-entered = off enteredPart tt (tt, tt, tt);
+      no-from = off fromPart tt (tt, tt, tt);
+      no-to = off toPart tt (tt, tt, tt);
+    }
+  where
+    on : (q : Region) {f : ℕ → ℕ} {n : ℕ} → T (apart headPart q) → FilledUpTo q f n l
+        → FilledUpTo q f n (putAt headPart (putAt headPart (putAt headPart l 0 (h .states)) 1 (h .steps)) 2 (h .initial .0))
+    on q a v = fill-apart headPart _ 2 _ q a (fill-apart headPart _ 1 _ q a (fill-apart headPart _ 0 _ q a v))
+
+    off : (q : Region) → T (apart headPart q) → T (apart relatedPart q) × T (apart firstPart q) × T (apart labelPart q)
+        → Empty q (putAt headPart (putAt headPart (putAt headPart l 0 (h .states)) 1 (h .steps)) 2 (h .initial .0))
+    off q a o = record {
+      zeros-are = λ i. put-apart headPart _ 2 _ q a i ∙ put-apart headPart _ 1 _ q a i ∙ put-apart headPart _ 0 _ q a i
+          ∙ w .others q o .zeros-are i;
+    }
+
+pub states-last : {labels words : List ℕ} {n : ℕ} {l l1 l2 l3 : List ℕ} (h : Head) → StatesUpTo labels words n l → 64 ≤ n
+    → l1 ≡ putAt headPart l 0 (h .states) → l2 ≡ putAt headPart l1 1 (h .steps) → l3 ≡ putAt headPart l2 2 (h .initial .0) → StatesIn h labels words l3
+states-last h w b p q r = rw (r, q, p) (states-end h w b)
+
+-- ---- the ends of the steps
+
+pub ends-start : {l : List ℕ} (steps : List ℕ) → length l ≡ sideWords → Empty fromPart l → Empty toPart l → EndsIn steps l 0 l
+ends-start steps r f t = record { kept = kept-none r; from-are = fill-none fromPart _ f; to-are = fill-none toPart _ t }
+
+pub ends-more : {steps before l : List ℕ} {j : ℕ} (x y : ℕ) → EndsIn steps before j l → j < 256 → x ≡ fromOf steps j → y ≡ toOf steps j
+    → EndsIn steps before (j + 1) (putAt toPart (putAt fromPart l j x) j y)
+ends-more {steps} {before} {l} {j} x y w h e f =
+    let l1 = putAt fromPart l j x in
+    let r = w .kept .room in
+    let k1 = kept-more fromPart l j x (λ q o. o .0) (w .kept) in
+    let r1 = k1 .room in
+    record {
+      kept = kept-more toPart l1 j y (λ q o. o .1) k1;
+      from-are = fill-apart toPart l1 j y fromPart tt (fill-more fromPart x (w .from-are) h (omega arith) e);
+      to-are = fill-more toPart y (fill-apart fromPart l j x toPart tt (w .to-are)) h (omega arith) f;
+    }
+
+pub ends-next : {steps before l l1 l2 : List ℕ} {j x y : ℕ} → EndsIn steps before j l → j < 256 → x ≡ fromOf steps j → y ≡ toOf steps j
+    → l1 ≡ putAt fromPart l j x → l2 ≡ putAt toPart l1 j y → EndsIn steps before (j + 1) l2
+ends-next {x = x} {y = y} w h e f p q = rw (q, p) (ends-more x y w h e f)
+
+-- ---- the whole
+
+-- two lists of words that agree in the parts of a system hold the same system
+same-system : (l k : List ℕ) → cellAt headPart l 0 ≡ cellAt headPart k 0 → cellAt headPart l 1 ≡ cellAt headPart k 1 → cellAt headPart l 2 ≡ cellAt headPart k 2
+    → ((s : ℕ) → cellAt labelPart l s ≡ cellAt labelPart k s) → ((j : ℕ) → cellAt fromPart l j ≡ cellAt fromPart k j)
+    → ((j : ℕ) → cellAt toPart l j ≡ cellAt toPart k j)
+    → systemIn l ≡ systemIn k
+same-system l k n m i label from to = rw (n, m, i, fun-ext label, fun-ext from, fun-ext to)
+
+-- as many steps as the side says
+pub ends-count : {h : Head} {labels steps words states ends : List ℕ} {m : ℕ} → StatesIn h labels words states → EndsIn steps states m ends
+    → m ≡ min (h .steps) 256 → m ≡ systemIn ends .steps
+ends-count a b e = e ∙ ap (λ (x : ℕ). min x 256) (sym (b .kept .same headPart (tt, tt) 1 ∙ a .steps-is))
+
+-- the ends are there, and no link yet
+pub unlinked : {h : Head} {labels steps words states ends : List ℕ} {m : ℕ} → StatesIn h labels words states → EndsIn steps states m ends → Unlinked ends
+unlinked a b =
+    let kept = b .kept in
+    record {
+      room = kept .room;
+      no-first = record { words-are = λ s. kept .same firstPart (tt, tt) s ∙ a .no-first .words-are s };
+      no-entered = record { zeros-are = λ s. kept .same enteredPart (tt, tt) s ∙ a .no-entered .zeros-are s };
+    }
+
+pub side-is : {h : Head} {labels steps words states ends side : List ℕ} {m : ℕ} → m ≡ min (h .steps) 256 → StatesIn h labels words states
+    → EndsIn steps states m ends
+    → LinksIn ends 0 side → SideOf h labels steps words side
+side-is {h} {labels} {steps} {words} {states} {ends} {side} e a b l =
+    let k = l .kept .same in
+    let n = b .kept .same in
+    record {
+      states-is = k headPart (tt, tt, tt) 0 ∙ n headPart (tt, tt) 0 ∙ a .states-is;
+      steps-is = k headPart (tt, tt, tt) 1 ∙ n headPart (tt, tt) 1 ∙ a .steps-is;
+      initial-is = k headPart (tt, tt, tt) 2 ∙ n headPart (tt, tt) 2 ∙ a .initial-is;
+      related-are = record { words-are = λ s. k relatedPart (tt, tt, tt) s ∙ n relatedPart (tt, tt) s ∙ a .related-are .words-are s };
+      labels-are = record { words-are = λ s. k labelPart (tt, tt, tt) s ∙ n labelPart (tt, tt) s ∙ a .labels-are .words-are s };
+      from-are = record { words-are = λ j. k fromPart (tt, tt, tt) j ∙ rw (← e) (b .from-are .words-are j) };
+      to-are = record { words-are = λ j. k toPart (tt, tt, tt) j ∙ rw (← e) (b .to-are .words-are j) };
+      linked = rw (same-system side ends (k headPart (tt, tt, tt) 0) (k headPart (tt, tt, tt) 1) (k headPart (tt, tt, tt) 2) (k labelPart (tt, tt, tt))
+          (k fromPart (tt, tt, tt)) (k toPart (tt, tt, tt)))
+          (l .linked);
+    }

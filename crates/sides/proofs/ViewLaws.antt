@@ -1,0 +1,119 @@
+-- The one way from bytes to the theory: two sides that are built of two tables that are read, and of a relation's rows, hold the view that the bytes give,
+-- whichever side is seen first; and their steps are linked. Assumes nothing.
+use Prim.Native.Nat.{_≤_, ℕ, _+_, _*_, _<_, min}
+use mathlib.Core.Path.{_≡_, sym, ap, ap₂, _∙_, subst, fun-ext}
+use mathlib.Core.Bool.{Bool, true}
+use mathlib.Core.List.{List}
+use native.Mathlib.Nat.{min-eq-left}
+use native.Mathlib.Omega.{arith}
+use lib.ListN.{length, getD}
+use Rattle.lists.specs.Numbers.{bigEndian}
+use Rattle.lists.proofs.FillLaws.{getD-past}
+use Rattle.words.specs.Bits.{hasBit, firstBit}
+use Rattle.bisimulation.specs.Systems.{System, View, Plain, flip}
+use Rattle.tables.specs.declared.Head.{Head}
+use Rattle.tables.specs.Table.{statesOf, stepsOf, startOf, labelsPart, stepsPart, labelOf, fromOf, toOf}
+use Rattle.tables.specs.Model.{systemOf}
+use Rattle.table_reader.specs.declared.TableRead.the-variants.{Good}
+use Rattle.table_reader.specs.TableReading.{readTable}
+use Rattle.table_reader.proofs.TableLaws.{table-ok, labels-length, steps-length, table-formed, start-first}
+use Rattle.certificates.specs.CertificateModel.{AreBytes, viewOf}
+use Rattle.sides.specs.Relation.{rowWords, columnWords}
+use Rattle.sides.specs.Side.{cellAt, relatedPart, labelPart, fromPart, toPart, systemIn, startIn, relatedTo}
+use Rattle.sides.specs.Built.{SideOf, Linked}
+use Rattle.sides.specs.Views.{viewIn}
+use Rattle.sides.proofs.RelationLaws.{rows-length, rows-related, columns-length, columns-flipped}
+use Rattle.sides.proofs.StoreLaws.{filled}
+use Rattle.sides.proofs.LinkedLaws.{linked}
+
+-- ---- the limits
+
+pub states-few : (side : List ℕ) → systemIn side .states ≤ 64
+states-few side = omega arith
+
+pub steps-few : (side : List ℕ) → systemIn side .steps ≤ 256
+steps-few side = omega arith
+
+-- ---- one side
+
+module _ (s : List ℕ) {h : Head} {words side : List ℕ} (good : readTable s ≡ Good h) (a : SideOf h (labelsPart s) (stepsPart s) words side) where
+  states-are : systemIn side .states ≡ statesOf s
+  states-are = let o = table-ok s good in rw (a .states-is, o .states-is) (min-eq-left (o .states-le))
+
+  steps-are : min (h .steps) 256 ≡ stepsOf s
+  steps-are = let o = table-ok s good in rw (o .steps-is) (min-eq-left (o .steps-le))
+
+  labels-are : (x : ℕ) → cellAt labelPart side x ≡ labelOf (labelsPart s) x
+  unfolding labelOf bigEndian
+  labels-are x =
+      let n = labels-length s good in
+      let o = table-ok s good .states-le in
+      filled labelPart (a .labels-are) x (λ z. rw (getD-past (labelsPart s) (x * 2 + 0) (omega arith), getD-past (labelsPart s) (x * 2 + 1) (omega arith)))
+
+  from-are : (j : ℕ) → cellAt fromPart side j ≡ fromOf (stepsPart s) j
+  unfolding fromOf
+  from-are j = let n = steps-length s good in let m = steps-are in filled fromPart (a .from-are) j (λ z. getD-past (stepsPart s) (j * 2) (omega arith))
+
+  to-are : (j : ℕ) → cellAt toPart side j ≡ toOf (stepsPart s) j
+  unfolding toOf
+  to-are j = let n = steps-length s good in let m = steps-are in filled toPart (a .to-are) j (λ z. getD-past (stepsPart s) (j * 2 + 1) (omega arith))
+
+  -- the system that the side holds is the one that the bytes give
+  pub system-is : systemIn side ≡ systemOf s
+  unfolding systemOf
+  system-is =
+      let o = table-ok s good in
+      rw (states-are, a .steps-is, steps-are, a .initial-is, o .initial-is, fun-ext labels-are, fun-ext from-are, fun-ext to-are)
+
+  below : {x : ℕ} → x < systemOf s .states → x < 64
+  unfolding systemOf
+  below {x} l = let n = table-ok s good .states-le in omega arith
+
+  -- so is its start
+  pub start-is : startIn side ≡ startOf s
+  start-is = ap firstBit (a .initial-is) ∙ start-first s good
+
+  -- and the links
+  pub side-linked : Linked side
+  side-linked =
+      let f = table-formed s good in
+      linked side
+      (subst (λ (S : System). (j : ℕ) → j < S .steps → S .from j < 64) (sym system-is) (λ j l. below (f .from< j l)))
+      (subst (λ (S : System). (j : ℕ) → j < S .steps → S .to j < 64) (sym system-is) (λ j l. below (f .to< j l)))
+      (a .linked)
+
+  related-are : length words ≡ 64 → (x : ℕ) → relatedTo side x ≡ getD words x 0
+  related-are n x = filled relatedPart (a .related-are) x (λ z. getD-past words x (omega arith))
+
+-- ---- two sides
+
+-- every step is silent and serves every other
+pub plain-view : (ours theirs : List ℕ) → Plain (viewIn ours theirs)
+plain-view ours theirs = record { silent = λ j. tt; silent′ = λ k. tt; serves = λ j k. tt }
+
+-- Two systems and their relation; every step serves every other.
+abbrev viewWith : System → System → (ℕ → ℕ → Bool) → View
+viewWith S S′ related = record { own = S; other = S′; related = related; serves = λ j k. true }
+
+module _ (left right rows : List ℕ) {h k : Head} {ours theirs : List ℕ} (gl : readTable left ≡ Good h) (gr : readTable right ≡ Good k) (bytes : AreBytes rows)
+    (a : SideOf h (labelsPart left) (stepsPart left) (rowWords rows (statesOf left)) ours)
+    (b : SideOf k (labelsPart right) (stepsPart right) (columnWords (rowWords rows (statesOf left))) theirs) where
+  -- the one law: seen from the left
+  pub view-is : viewIn ours theirs ≡ viewOf left right rows
+  unfolding viewOf
+  view-is =
+      let few = table-ok left gl .states-le in
+      let word = related-are left gl a (rows-length rows (statesOf left)) in
+      ap₂ (λ (x y : System). viewWith x y (λ s t. hasBit (relatedTo ours s) t)) (system-is left gl a) (system-is right gr b)
+      ∙ ap (viewWith (systemOf left) (systemOf right))
+      (fun-ext (λ s. fun-ext (λ t. ap (λ (w : ℕ). hasBit w t) (word s) ∙ rows-related rows (statesOf left) few s t)))
+
+  -- and from the right
+  pub view-flipped : viewIn theirs ours ≡ flip (viewOf left right rows)
+  unfolding viewOf
+  view-flipped =
+      let few = table-ok left gl .states-le in
+      let word = related-are right gr b (columns-length (rowWords rows (statesOf left))) in
+      ap₂ (λ (x y : System). viewWith x y (λ t s. hasBit (relatedTo theirs t) s)) (system-is right gr b) (system-is left gl a)
+      ∙ ap (viewWith (systemOf right) (systemOf left))
+      (fun-ext (λ t. fun-ext (λ s. ap (λ (w : ℕ). hasBit w s) (word t) ∙ columns-flipped rows (statesOf left) few bytes t s)))

@@ -1,0 +1,270 @@
+// The one form in which two read tables and a relation are handed on. The relation is a word for each state: the states related to it. A side is all
+// that is asked of one table and of the relation, worked out once a call: every fact of a state or of a step is one read, and the steps from a state
+// are linked in their order.
+use certificates::row;
+use tables::Head;
+use words::Row;
+ghost use mathlib.Core.Path.{_≡_};
+ghost use Prim.Native.Nat.{_+_, _^_, _≤_, _<_, min};
+ghost use Rattle.sides.specs.Relation.{rowWord, rowWords, columnWord, columnWords};
+ghost use Rattle.sides.specs.Side.{cellAt, headPart, systemIn, relatedTo, enteredFrom, firstStep, linkAt};
+ghost use Rattle.sides.specs.Built.{SideOf};
+ghost use Rattle.sides.specs.Building.{putAt};
+
+// The words of a side. Its parts are read by the functions below alone.
+pub type Side = [u64; 5 * Head::MAX_STATES + 3 * Head::MAX_STEPS];
+
+// Where each part begins: the header; for each state the states related to it, the states that its steps enter, its first step, and its label; for each
+// step the next step from the same state, and the states that it leaves and enters.
+const HEAD: usize = 0;
+
+const RELATED: usize = Head::MAX_STATES;
+
+const ENTERED: usize = 2 * Head::MAX_STATES;
+
+const FIRST: usize = 3 * Head::MAX_STATES;
+
+const LABEL: usize = 4 * Head::MAX_STATES;
+
+const NEXT: usize = 5 * Head::MAX_STATES;
+
+const FROM: usize = NEXT + Head::MAX_STEPS;
+
+const TO: usize = FROM + Head::MAX_STEPS;
+
+// ---- the relation
+
+// Row s, and the empty word for s of n1 or more.
+fn row_word(rows: &[u8], n1: usize, s: usize) -> Row
+    ensures { λ r. ⌜ r .0 ≡ rowWord (now (rows .entry)) n1 s ⌝ }
+{
+    if s < n1 { row(rows, s) } else { Row::empty() }
+}
+
+// The states below 64 whose word has t.
+fn column_word(words: &[u64; Head::MAX_STATES], t: usize) -> Row
+    ensures { λ r. ⌜ r .0 ≡ columnWord (now (words .entry)) t 64 ⌝ }
+{
+    let mut states = Row::empty();
+    let mut s: usize = 0;
+    while s < Head::MAX_STATES {
+        let states_of = Row(words[s]);
+        if states_of.has(t) {
+            states = states.add(s);
+        }
+        s += 1;
+    }
+    states
+}
+
+// The rows as words: row s for s below n1 and below 64, and empty words after them.
+pub fn row_words(rows: &[u8], n1: usize) -> [u64; Head::MAX_STATES]
+    ensures { λ r. ⌜ r ≡ rowWords (now (rows .entry)) n1 ⌝ }
+{
+    let mut words: [u64; Head::MAX_STATES] = [0; Head::MAX_STATES];
+    let mut s: usize = 0;
+    while s < Head::MAX_STATES {
+        let states = row_word(rows, n1, s);
+        words[s] = states.0;
+        s += 1;
+    }
+    words
+}
+
+// The relation turned round: word t has the states below 64 whose word has t.
+pub fn column_words(words: &[u64; Head::MAX_STATES]) -> [u64; Head::MAX_STATES]
+    ensures { λ r. ⌜ r ≡ columnWords (now (words .entry)) ⌝ }
+{
+    let mut columns: [u64; Head::MAX_STATES] = [0; Head::MAX_STATES];
+    let mut t: usize = 0;
+    while t < Head::MAX_STATES {
+        let states = column_word(words, t);
+        columns[t] = states.0;
+        t += 1;
+    }
+    columns
+}
+
+// ---- what a side says
+
+// A word, which has 64 bits.
+fn word(x: u64) -> u64
+    ensures value { λ r. ⌜ r ≡ x ⌝ }
+    ensures small { λ r. ⌜ r < 2 ^ 64 ⌝ }
+{
+    x
+}
+
+// The word at i of the part from base on that has `size` words; 0 past its end.
+fn cell(side: &Side, base: usize, size: usize, i: usize) -> u64
+    requires { ⌜ base + size ≤ 1088 ⌝ }
+    ensures value { λ r. ⌜ r ≡ cellAt (record { base = base; size = size }) (now (side .entry)) i ⌝ }
+    ensures small { λ r. ⌜ r < 2 ^ 64 ⌝ }
+{
+    if i < size { word(side[base + i]) } else { 0 }
+}
+
+// A number, and the limit where it is more.
+fn at_most(x: usize, limit: usize) -> usize
+    ensures { λ r. ⌜ r ≡ min x limit ⌝ }
+{
+    if x < limit { x } else { limit }
+}
+
+// The number of states.
+pub fn states(side: &Side) -> usize
+    ensures value { λ r. ⌜ r ≡ systemIn (now (side .entry)) .states ⌝ }
+    ensures small { λ r. ⌜ r ≤ 64 ⌝ }
+{
+    at_most(
+        cell(side, HEAD, Head::MAX_STATES, 0) as usize,
+        Head::MAX_STATES,
+    )
+}
+
+// The number of steps.
+pub fn step_count(side: &Side) -> usize
+    ensures value { λ r. ⌜ r ≡ systemIn (now (side .entry)) .steps ⌝ }
+    ensures small { λ r. ⌜ r ≤ 256 ⌝ }
+{
+    at_most(
+        cell(side, HEAD, Head::MAX_STATES, 1) as usize,
+        Head::MAX_STEPS,
+    )
+}
+
+// The initial states.
+pub fn initial(side: &Side) -> Row
+    ensures { λ r. ⌜ r .0 ≡ cellAt headPart (now (side .entry)) 2 ⌝ }
+{
+    Row(cell(side, HEAD, Head::MAX_STATES, 2))
+}
+
+// The states of the other side that are related to s.
+pub fn related(side: &Side, s: usize) -> Row
+    ensures value { λ r. ⌜ r .0 ≡ relatedTo (now (side .entry)) s ⌝ }
+    ensures small { λ r. ⌜ r .0 < 2 ^ 64 ⌝ }
+{
+    Row(cell(side, RELATED, Head::MAX_STATES, s))
+}
+
+// The states that steps from s enter.
+pub fn entered(side: &Side, s: usize) -> Row
+    ensures value { λ r. ⌜ r .0 ≡ enteredFrom (now (side .entry)) s ⌝ }
+    ensures small { λ r. ⌜ r .0 < 2 ^ 64 ⌝ }
+{
+    Row(cell(side, ENTERED, Head::MAX_STATES, s))
+}
+
+// The label of s.
+pub fn label(side: &Side, s: usize) -> u64
+    ensures { λ r. ⌜ r ≡ systemIn (now (side .entry)) .label s ⌝ }
+{
+    cell(side, LABEL, Head::MAX_STATES, s)
+}
+
+// The first step from s, and 256 where there is none.
+pub fn first(side: &Side, s: usize) -> usize
+    ensures { λ r. ⌜ r ≡ firstStep (now (side .entry)) s ⌝ }
+{
+    if s < Head::MAX_STATES {
+        cell(side, FIRST, Head::MAX_STATES, s) as usize
+    } else {
+        Head::MAX_STEPS
+    }
+}
+
+// The step after j from the same state; one that is not later than j stands for none.
+pub fn next(side: &Side, j: usize) -> usize
+    ensures { λ r. ⌜ r ≡ linkAt (now (side .entry)) j ⌝ }
+{
+    cell(side, NEXT, Head::MAX_STEPS, j) as usize
+}
+
+// The state that step j leaves.
+pub fn from(side: &Side, j: usize) -> usize
+    ensures { λ r. ⌜ r ≡ systemIn (now (side .entry)) .from j ⌝ }
+{
+    cell(side, FROM, Head::MAX_STEPS, j) as usize
+}
+
+// The state that step j enters.
+pub fn to(side: &Side, j: usize) -> usize
+    ensures { λ r. ⌜ r ≡ systemIn (now (side .entry)) .to j ⌝ }
+{
+    cell(side, TO, Head::MAX_STEPS, j) as usize
+}
+
+// ---- how a side is made
+
+// Stores x at i of the part from base on that has `size` words; past its end nothing changes.
+fn put(side: &mut Side, base: usize, size: usize, i: usize, x: u64)
+    requires { ⌜ base + size ≤ 1088 ⌝ }
+    ensures { λ _. ⌜ now (side .exit) ≡ putAt (record { base = base; size = size }) (now (side .entry)) i x ⌝ }
+{
+    if i < size {
+        side[base + i] = x;
+    }
+}
+
+// The side of a table, from its header and the parts that hold its labels and its steps, with the states related to each of its states.
+pub fn side_of(head: Head, labels: &[u8], steps: &[u8], words: &[u64; Head::MAX_STATES]) -> Side
+    ensures { λ r. ⌜ SideOf head (now (labels .entry)) (now (steps .entry)) (now (words .entry)) r ⌝ }
+{
+    // The states related to each state and its label, and no step yet.
+    let mut side: Side = [0; 5 * Head::MAX_STATES + 3 * Head::MAX_STEPS];
+    let mut s: usize = 0;
+    while s < Head::MAX_STATES {
+        put(&mut side, RELATED, Head::MAX_STATES, s, words[s]);
+        put(
+            &mut side,
+            FIRST,
+            Head::MAX_STATES,
+            s,
+            Head::MAX_STEPS as u64,
+        );
+        put(
+            &mut side,
+            LABEL,
+            Head::MAX_STATES,
+            s,
+            tables::label(labels, s),
+        );
+        s += 1;
+    }
+    put(&mut side, HEAD, Head::MAX_STATES, 0, head.states as u64);
+    put(&mut side, HEAD, Head::MAX_STATES, 1, head.steps as u64);
+    put(&mut side, HEAD, Head::MAX_STATES, 2, head.initial.0);
+    // The ends of the steps.
+    let m = at_most(head.steps, Head::MAX_STEPS);
+    let mut j: usize = 0;
+    while j < m {
+        put(
+            &mut side,
+            FROM,
+            Head::MAX_STEPS,
+            j,
+            tables::from(steps, j) as u64,
+        );
+        put(
+            &mut side,
+            TO,
+            Head::MAX_STEPS,
+            j,
+            tables::to(steps, j) as u64,
+        );
+        j += 1;
+    }
+    // Their links, from the last step to the first.
+    while 0 < j {
+        j -= 1;
+        let from_state = from(&side, j);
+        let later = first(&side, from_state);
+        let states = entered(&side, from_state);
+        let more = states.add(to(&side, j));
+        put(&mut side, ENTERED, Head::MAX_STATES, from_state, more.0);
+        put(&mut side, FIRST, Head::MAX_STATES, from_state, j as u64);
+        put(&mut side, NEXT, Head::MAX_STEPS, j, later as u64);
+    }
+    side
+}
