@@ -63,6 +63,7 @@ module _ (ours theirs : List ℕ) where
         quiet = true;
       }
 
+  -- Its outcome, with the ranks that stand in the certificate.
   unfoldable pub obligationIn : List ℕ → Run → ℕ → ℕ → Outcome
   obligationIn certificate run j t =
       obligationOf (facingIn j t) t (stutterAt certificate run (systemIn ours .from j) t) (stutterAt certificate run (systemIn ours .to j) t)
