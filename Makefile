@@ -1,6 +1,6 @@
 # make run     prove and build the judge's program, and run it on the example P, Q, K of the format's document
-# make test    the whole gate: layout, the library and the program for the Rust tests, these tests, then from nothing proofs, must-fail edits
-#              and programs; its last line is rt's 'N passed, 0 failed'
+# make test    the whole gate: layout; rt ci, which proves every crate from nothing, tries the must-fail edits and runs the programs; the Rust tests on
+#              what it proved. Where all of this passes, the last line is that of rt ci, 'N passed, 0 failed', said again
 # make bench   speed of the proved judge and the proved maker beside Rust versions, as ratios in one run; no part of the gate
 # make fmt     lay out every file under crates/
 
@@ -8,6 +8,13 @@
 export RT_JOBS ?= 4
 
 CARGO_WORDS = --release --offline --quiet --manifest-path rust/Cargo.toml
+
+# What rt ci said; rt ci empties target/ at its start.
+VERDICT = rust/target/verdict
+
+# A pipe fails where one of its commands does.
+SHELL = /bin/bash
+.SHELLFLAGS = -o pipefail -c
 
 .PHONY: run test bench fmt
 
@@ -18,10 +25,11 @@ run:
 
 test:
 	rt fmt --check
-	rt check judge ranking
+	@mkdir -p $(dir $(VERDICT))
+	rt ci | tee $(VERDICT)
 	rt staticlib stutter
 	cargo test $(CARGO_WORDS)
-	rt ci
+	@tail -n 1 $(VERDICT)
 
 bench:
 	rt staticlib stutter

@@ -16,14 +16,14 @@ use Rattle.answers.proofs.VerdictLaws.{Decided, decided-none, decided-end, deci
 use Rattle.table_reader.proofs.TestLaws.{magic-decides}
 use Rattle.certificates.specs.declared.Sizes.{Sizes}
 use Rattle.certificates.specs.Layout.{certificateLength, rowsPart}
-use Rattle.certificate_reader.specs.declared.CertificateRefusal.the-variants as certificate
+use Rattle.refusals.specs.declared.CertificateRefusal.the-variants as certificate
 use Rattle.certificate_reader.specs.declared.CertificateRead.{CertificateRead}
 use Rattle.certificate_reader.specs.declared.CertificateRead.the-variants as read
-use Rattle.certificate_reader.specs.declared.RelationRefusal.the-variants as relation
+use Rattle.refusals.specs.declared.RelationRefusal.the-variants as relation
 use Rattle.certificate_reader.specs.declared.RelationRead.{RelationRead}
 use Rattle.certificate_reader.specs.declared.RelationRead.the-variants as relations
 use Rattle.certificate_reader.specs.CertificateReading.{readHeader, readRows, withRows, readCertificate, readRelation}
-use Rattle.certificate_reader.specs.CertificateAnswers.{certificateVerdict, relationVerdict}
+use Rattle.certificate_reader.specs.CertificateVerdicts.{certificateVerdict, relationVerdict}
 use Rattle.certificate_reader.specs.CertificateCauses.{certificateCauses, relationCauses}
 use Rattle.certificate_reader.proofs.CertificateTestLaws.{sizes-decides, wide-decides}
 

@@ -10,10 +10,10 @@ use Rattle.words.specs.Bits.{hasFrom}
 use Rattle.tables.specs.Table.{magicFits}
 use Rattle.certificates.specs.Layout.{certificateHeaderLength, rowLength, certificateLength, rowsPart, rowOf}
 use Rattle.certificates.specs.declared.Sizes.{Sizes}
-use Rattle.certificate_reader.specs.declared.CertificateRefusal.the-variants as certificate
+use Rattle.refusals.specs.declared.CertificateRefusal.the-variants as certificate
 use Rattle.certificate_reader.specs.declared.CertificateRead.{CertificateRead}
 use Rattle.certificate_reader.specs.declared.CertificateRead.the-variants as read
-use Rattle.certificate_reader.specs.declared.RelationRefusal.the-variants as relation
+use Rattle.refusals.specs.declared.RelationRefusal.the-variants as relation
 use Rattle.certificate_reader.specs.declared.RelationRead.{RelationRead}
 use Rattle.certificate_reader.specs.declared.RelationRead.the-variants as relations
 

@@ -1,3 +1,3 @@
 pub mod CertificateReading
-pub mod CertificateAnswers
+pub mod CertificateVerdicts
 pub mod CertificateCauses

@@ -1,94 +1,26 @@
 // The readers of certificates and of relations: for every byte string its sizes, or the one refusal whose condition and place in the order fit.
-use answers::Answer;
 use certificates::Sizes;
 use certificates::row;
 use certificates::rows;
 use lists::byte;
 use lists::read_be16;
+use refusals::CertificateRefusal;
+use refusals::RelationRefusal;
 use table_reader::magic_fits;
 ghost use mathlib.Core.Path.{_≡_};
 ghost use Rattle.lists.specs.Below.{firstBelow};
 ghost use Rattle.certificate_reader.specs.CertificateReading.{certificateSizesFit, wideRow, readHeader, readCertificate, readRelation};
-ghost use Rattle.certificate_reader.specs.CertificateAnswers.{certificateAnswer, relationAnswer};
 
-// Why a certificate is refused; the last carries the first such row.
-pub enum CertificateRefusal {
-    Short,
-    Magic,
-    Version,
-    Sizes,
-    Length,
-    RowBit(usize),
-}
-
+// What reading a certificate gives.
 pub enum CertificateRead {
     Good(Sizes),
     Refused(CertificateRefusal),
 }
 
-// Why a relation is refused; the last carries the first such row.
-pub enum RelationRefusal {
-    Length,
-    RowBit(usize),
-}
-
+// What reading a relation gives.
 pub enum RelationRead {
     Good(Sizes),
     Refused(RelationRefusal),
-}
-
-impl CertificateRefusal {
-    // The six numbers of the refusal of the file with this number.
-    pub fn answer(self, file: usize) -> Answer
-        ensures { λ r. ⌜ r ≡ certificateAnswer self file ⌝ }
-    {
-        let refusal = self;
-        let mut a: usize = 0;
-        let code: usize = match refusal {
-            CertificateRefusal::Short => 10,
-            CertificateRefusal::Magic => 11,
-            CertificateRefusal::Version => 12,
-            CertificateRefusal::Sizes => 13,
-            CertificateRefusal::Length => 14,
-            CertificateRefusal::RowBit(s) => {
-                a = s;
-                15
-            }
-        };
-        Answer {
-            code,
-            file,
-            a,
-            b: 0,
-            c: 0,
-            d: 0,
-        }
-    }
-}
-
-impl RelationRefusal {
-    // The six numbers of the refusal of the file with this number.
-    pub fn answer(self, file: usize) -> Answer
-        ensures { λ r. ⌜ r ≡ relationAnswer self file ⌝ }
-    {
-        let refusal = self;
-        let mut a: usize = 0;
-        let code: usize = match refusal {
-            RelationRefusal::Length => 20,
-            RelationRefusal::RowBit(s) => {
-                a = s;
-                15
-            }
-        };
-        Answer {
-            code,
-            file,
-            a,
-            b: 0,
-            c: 0,
-            d: 0,
-        }
-    }
 }
 
 // The first of n1 rows that has a bit n2 or more, and n1 where there is none.

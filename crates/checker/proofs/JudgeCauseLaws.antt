@@ -11,13 +11,13 @@ use Rattle.table_reader.proofs.TableCauseLaws.{after-table, table-numbers}
 use Rattle.certificates.specs.Layout.{sizesOf}
 use Rattle.certificates.specs.CertificateModel.{certifiedView, certifiedRanks}
 use Rattle.certificate_reader.specs.CertificateReading.{readCertificate}
-use Rattle.certificate_reader.specs.CertificateAnswers.{certificateVerdict}
+use Rattle.certificate_reader.specs.CertificateVerdicts.{certificateVerdict}
 use Rattle.certificate_reader.specs.CertificateCauses.{certificateCauses}
 use Rattle.certificate_reader.proofs.CertificateCauseLaws.{certificate-decided, certificate-numbers}
 use Rattle.obligations.specs.CheckCauses.{startsCauses, checkCauses}
 use Rattle.obligations.specs.Judging.{checks, startsVerdict, checkVerdict}
 use Rattle.obligations.proofs.JudgingLaws.{starts-decided, check-decided, check-numbers}
-use Rattle.checker.specs.Tallies.{none, counted, tallied}
+use Rattle.sweeps.specs.Tallies.{none, counted, tallied}
 use Rattle.checker.specs.Judge.{judged, judgedBytes, judgeVerdict}
 use Rattle.checker.specs.JudgeCauses.{judgeCauses, judgeNumber}
 

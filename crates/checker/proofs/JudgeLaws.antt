@@ -5,15 +5,15 @@ use mathlib.Core.List.{List}
 use Rattle.answers.specs.Verdicts.{refusalOf}
 use Rattle.tables.specs.declared.Head.{Head}
 use Rattle.table_reader.specs.TableReading.{readTable}
-use Rattle.table_reader.specs.TableAnswers.{tableVerdict}
-use Rattle.table_reader.specs.declared.TableRefusal.{TableRefusal}
+use Rattle.table_reader.specs.TableVerdicts.{tableVerdict}
+use Rattle.refusals.specs.declared.TableRefusal.{TableRefusal}
 use Rattle.table_reader.specs.declared.TableRead.{TableRead}
 use Rattle.table_reader.specs.declared.TableRead.the-variants as table
 use Rattle.certificates.specs.Layout.{sizesOf}
 use Rattle.certificates.specs.declared.Sizes.{Sizes}
 use Rattle.certificate_reader.specs.CertificateReading.{readCertificate}
-use Rattle.certificate_reader.specs.CertificateAnswers.{certificateVerdict}
-use Rattle.certificate_reader.specs.declared.CertificateRefusal.{CertificateRefusal}
+use Rattle.certificate_reader.specs.CertificateVerdicts.{certificateVerdict}
+use Rattle.refusals.specs.declared.CertificateRefusal.{CertificateRefusal}
 use Rattle.certificate_reader.specs.declared.CertificateRead.{CertificateRead}
 use Rattle.certificate_reader.specs.declared.CertificateRead.the-variants as certificate
 use Rattle.checker.specs.Judge.{judgeVerdict, readAnswer, judgeAnswer}

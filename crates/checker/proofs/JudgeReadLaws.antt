@@ -22,10 +22,10 @@ use Rattle.certificate_reader.specs.CertificateReading.{readCertificate}
 use Rattle.certificate_reader.proofs.CertificateLaws.{certificate-ok, sizes-are, view-formed}
 use Rattle.answers.specs.Verdicts.{Verdict, goOn, refusedWith, along, answerOf}
 use Rattle.answers.specs.declared.Answer.{Answer}
-use Rattle.sides.specs.Relation.{rowWords, columnWords}
+use Rattle.relation_words.specs.Relation.{rowWords, columnWords}
 use Rattle.sides.specs.Views.{viewIn}
 use Rattle.sides.specs.Built.{SideOf}
-use Rattle.sides.proofs.RelationLaws.{rows-ones}
+use Rattle.relation_words.proofs.RelationLaws.{rows-ones}
 use Rattle.sides.proofs.ViewLaws.{view-is, view-flipped, start-is, side-linked}
 use Rattle.obligations.specs.declared.Checked.{Checked}
 use Rattle.obligations.specs.declared.Checked.the-variants.{Passed, Refused}
@@ -33,12 +33,12 @@ use Rattle.obligations.specs.declared.Run.{Run}
 use Rattle.obligations.specs.Judging.{checks, startsVerdict, checkVerdict}
 use Rattle.obligations.specs.OnSides.{startsIn, asChecked, leftRun, rightRun}
 use Rattle.obligations.proofs.OnSidesLaws.{RanksAt}
-use Rattle.checker.specs.Tallies.{none, tallied, acceptance}
-use Rattle.checker.specs.SideVerdicts.{progress, endAnswer}
-use Rattle.checker.specs.SideVerdicts.{allVerdicts}
+use Rattle.sweeps.specs.Tallies.{none, tallied, acceptance}
+use Rattle.sweeps.specs.SideVerdicts.{progress, endAnswer}
+use Rattle.sweeps.specs.SideVerdicts.{allVerdicts}
 use Rattle.checker.specs.Judge.{pairsIn, judged, judgedBytes, readAnswer}
-use Rattle.checker.proofs.ProgressLaws.{end-answer}
-use Rattle.checker.proofs.SideVerdictLaws.{verdicts-are}
+use Rattle.sweeps.proofs.ProgressLaws.{end-answer}
+use Rattle.sweeps.proofs.SideVerdictLaws.{verdicts-are}
 
 -- ---- the code's enum for the verdict on the starts
 

@@ -8,20 +8,20 @@ use Rattle.words.specs.Bits.{countBits}
 use Rattle.bisimulation.specs.Systems.{View, Ranks}
 use Rattle.tables.specs.Table.{statesOf, startOf}
 use Rattle.table_reader.specs.TableReading.{readTable}
-use Rattle.table_reader.specs.TableAnswers.{tableVerdict}
+use Rattle.table_reader.specs.TableVerdicts.{tableVerdict}
 use Rattle.answers.specs.Verdicts.{Verdict, _andThen_, along, answerOf}
 use Rattle.answers.specs.declared.Answer.{Answer}
 use Rattle.tables.specs.declared.Head.{Head}
 use Rattle.table_reader.specs.declared.TableRead.the-variants as table
 use Rattle.certificates.specs.Layout.{sizesOf, rowsPart, rowOf}
 use Rattle.certificate_reader.specs.CertificateReading.{readCertificate}
-use Rattle.certificate_reader.specs.CertificateAnswers.{certificateVerdict}
+use Rattle.certificate_reader.specs.CertificateVerdicts.{certificateVerdict}
 use Rattle.certificates.specs.CertificateModel.{certifiedView, certifiedRanks}
 use Rattle.certificates.specs.declared.Sizes.{Sizes}
 use Rattle.certificate_reader.specs.declared.CertificateRead.the-variants as certificate
 use Rattle.obligations.specs.Judging.{checks, startsVerdict, checkVerdict}
-use Rattle.checker.specs.declared.Tally.{Tally}
-use Rattle.checker.specs.Tallies.{none, tallied, acceptance}
+use Rattle.sweeps.specs.declared.Tally.{Tally}
+use Rattle.sweeps.specs.Tallies.{none, tallied, acceptance}
 
 -- Both tables and the certificate are read, the tables with these headers.
 pub record AllRead (left right c : List ℕ) (head head′ : Head) : Type 0 where

@@ -1,4 +1,2 @@
-pub mod Tallies
-pub mod SideVerdicts
 pub mod Judge
 pub mod JudgeCauses

@@ -16,20 +16,20 @@ use Rattle.answers.proofs.VerdictLaws.{then-on, decided-answer}
 use Rattle.tables.specs.Table.{statesOf, stepsOf, startOf}
 use Rattle.tables.specs.Model.{systemOf}
 use Rattle.table_reader.specs.TableReading.{readTable}
-use Rattle.table_reader.specs.TableAnswers.{tableVerdict}
+use Rattle.table_reader.specs.TableVerdicts.{tableVerdict}
 use Rattle.certificates.specs.Layout.{sizesOf, rowsPart, rowOf}
 use Rattle.certificates.specs.CertificateModel.{viewOf, certifiedView as view, certifiedRanks as ranks}
 use Rattle.certificate_reader.specs.CertificateReading.{readCertificate}
-use Rattle.certificate_reader.specs.CertificateAnswers.{certificateVerdict}
-use Rattle.obligations.specs.declared.Clause.{Clause}
-use Rattle.obligations.specs.declared.Clause.the-variants.{Step, Stutter, Match}
+use Rattle.certificate_reader.specs.CertificateVerdicts.{certificateVerdict}
+use Rattle.outcomes.specs.declared.Clause.{Clause}
+use Rattle.outcomes.specs.declared.Clause.the-variants.{Step, Stutter, Match}
 use Rattle.obligations.specs.CheckCauses.{CheckMetBy}
 use Rattle.obligations.specs.Judging.{checks, startsVerdict}
-use Rattle.checker.specs.Tallies.{none, countOf, acceptance}
+use Rattle.sweeps.specs.Tallies.{none, countOf, acceptance}
 use Rattle.checker.specs.Judge.{pairsIn, judged, judgedBytes, judgeVerdict, judgeAnswer}
 use Rattle.checker.specs.JudgeCauses.{judgeCauses, judgeNumber}
-use Rattle.checker.specs.declared.Tally.{Tally}
-use Rattle.checker.proofs.TallyLaws.{along-counts, along-total}
+use Rattle.sweeps.specs.declared.Tally.{Tally}
+use Rattle.sweeps.proofs.TallyLaws.{along-counts, along-total}
 use Rattle.checker.proofs.JudgeCauseLaws.{judge-decided, judge-numbers}
 use Rattle.demands.specs.Demand1.{obligationsOf, Accepted, JudgeAnswers}
 use Rattle.demands.proofs.CountLaws.{count-checks, obligations-most}

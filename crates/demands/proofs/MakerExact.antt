@@ -31,7 +31,8 @@ use Rattle.files.specs.File.{certificateHeader, certificateFile}
 use Rattle.files.proofs.FileLaws.{file-length, file-rows, file-ranks}
 use Rattle.examination.proofs.ExamineLaws.{examined-succeeds}
 use Rattle.ranking.specs.Make.{madeVerdict, makeVerdict, fileFor, makeAnswer, makeOutput}
-use Rattle.ranking.proofs.MakeAnswers.{read-inputs, made-by, room-verdict}
+use Rattle.inputs.proofs.InputLaws.{read-inputs}
+use Rattle.ranking.proofs.MakeAnswers.{made-by, room-verdict}
 use Rattle.ranking.proofs.MakerCauseLaws.{maker-decided}
 use Rattle.checker.specs.Judge.{judgeAnswer}
 use Rattle.demands.specs.Demand2.{WellFormedInputs}

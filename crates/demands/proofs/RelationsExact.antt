@@ -26,7 +26,7 @@ use Rattle.certificate_reader.proofs.CertificateLaws.{certificate-ok, relation-
 use Rattle.files.specs.File.{certificateFile}
 use Rattle.files.proofs.FileLaws.{FitsHeader, file-rows, file-ranks, file-good, file-bytes}
 use Rattle.checker.specs.Judge.{judgeAnswer}
-use Rattle.ranking.specs.Make.{InputsRead}
+use Rattle.inputs.specs.Inputs.{InputsRead}
 use Rattle.demands.specs.Demand2.{AllWellFormed, HasRows, WellFormedInputs}
 use Rattle.demands.proofs.AgreeLaws.{AgreeInside, accepts-agree}
 use Rattle.demands.proofs.JudgeExact.{accepts-code, code-accepts}

@@ -39,13 +39,14 @@ use Rattle.certificates.specs.Layout.{sizesOf, certificateLength, rowsAt, alAt,
 use Rattle.certificate_reader.specs.CertificateReading.{certificateSizesFit, wideRow, readRows, readCertificate, readRelation}
 use Rattle.certificate_reader.specs.CertificateReading as certificates
 use Rattle.certificates.specs.CertificateModel.{AreBytes, relatedIn, viewOf, ranksOf}
-use Rattle.obligations.specs.Obligation.{outcomeOf, isApart, obligationAt}
+use Rattle.outcomes.specs.Obligation.{outcomeOf, isApart, obligationAt}
 use Rattle.answers.specs.Verdicts.{along, firstOf}
 use Rattle.answers.specs.declared.Answer.{Answer}
 use Rattle.obligations.specs.Judging.{pairChecks, checksBy, checks, startsVerdict, checkVerdict}
 use Rattle.files.specs.File.{certificateHeader, certificateFile}
 use Rattle.examination.specs.Examine.{examined, makerVerdict, verdictBy, mayKeep, endlessAt, firstChain, endless}
-use Rattle.ranking.specs.Make.{readVerdict, roomVerdict, fileFor, madeVerdict, makeVerdict, makeAnswer, makeOutput}
+use Rattle.inputs.specs.Inputs.{readVerdict}
+use Rattle.ranking.specs.Make.{roomVerdict, fileFor, madeVerdict, makeVerdict, makeAnswer, makeOutput}
 use Rattle.checker.specs.Judge.{pairsIn, judged, judgedBytes, judgeVerdict, judgeAnswer}
 use Rattle.demands.specs.Demand2.{WellFormedInputs}
 use Rattle.demands.specs.Examples.{six, P, Q, rowsPQ, K, certificate, low, zeros, still, looping, stillCertificate}

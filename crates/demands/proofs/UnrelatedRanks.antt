@@ -25,19 +25,19 @@ use Rattle.certificates.specs.Layout.{sizesOf, certificateLength, rowsAt, alAt,
 use Rattle.certificate_reader.specs.CertificateReading.{certificateSizesFit, readHeader, readRows, withRows, readCertificate}
 use Rattle.certificates.specs.CertificateModel.{viewOf, ranksOf, certifiedView as view, certifiedRanks as ranks}
 use Rattle.certificates.specs.declared.Sizes.{Sizes}
-use Rattle.certificate_reader.specs.declared.CertificateRefusal.{CertificateRefusal}
-use Rattle.certificate_reader.specs.declared.CertificateRefusal.the-variants as refused
+use Rattle.refusals.specs.declared.CertificateRefusal.{CertificateRefusal}
+use Rattle.refusals.specs.declared.CertificateRefusal.the-variants as refused
 use Rattle.certificate_reader.specs.declared.CertificateRead.{CertificateRead}
 use Rattle.certificate_reader.specs.declared.CertificateRead.the-variants as certificate
 use Rattle.certificates.proofs.ModelLaws.{rows-length, rows-byte}
 use Rattle.certificate_reader.proofs.CertificateLaws.{certificate-ok}
-use Rattle.checker.specs.Tallies.{none, tallied, acceptance}
+use Rattle.sweeps.specs.Tallies.{none, tallied, acceptance}
 use Rattle.checker.specs.Judge.{pairsIn, judged, judgedBytes, judgeVerdict, answerAfter, judgeAnswer}
-use Rattle.checker.specs.declared.Tally.{Tally}
-use Rattle.table_reader.specs.TableAnswers.{tableVerdict}
-use Rattle.certificate_reader.specs.CertificateAnswers.{certificateVerdict}
+use Rattle.sweeps.specs.declared.Tally.{Tally}
+use Rattle.table_reader.specs.TableVerdicts.{tableVerdict}
+use Rattle.certificate_reader.specs.CertificateVerdicts.{certificateVerdict}
 use Rattle.demands.specs.Demand2.{SameWhereRelated}
-use Rattle.obligations.specs.Obligation.{outcomeOf, isApart, obligationAt}
+use Rattle.outcomes.specs.Obligation.{outcomeOf, isApart, obligationAt}
 use Rattle.obligations.specs.Judging.{Check, checks, startsVerdict, Finding, stepVerdict, checkVerdict}
 use Rattle.obligations.proofs.JudgingLaws.{checks-all}
 

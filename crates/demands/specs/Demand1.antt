@@ -17,7 +17,7 @@ use Rattle.certificates.specs.Layout.{sizesOf, certificateLength, rowsPart, row
 use Rattle.certificates.specs.CertificateModel.{certifiedView as view, certifiedRanks as ranks}
 use Rattle.obligations.specs.CheckCauses.{CheckMetBy}
 use Rattle.obligations.specs.Judging.{checks}
-use Rattle.obligations.specs.declared.Clause.the-variants.{Step, Stutter, Match}
+use Rattle.outcomes.specs.declared.Clause.the-variants.{Step, Stutter, Match}
 use Rattle.checker.specs.JudgeCauses.{judgeCauses}
 use Rattle.ranking.specs.MakerCauses.{makerCauses}
 

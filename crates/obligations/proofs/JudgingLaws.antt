@@ -18,7 +18,7 @@ use Rattle.bisimulation.specs.Clauses.{Meets2a, Meets2b, Meets2c, Meets, EveryO
 use Rattle.bisimulation.specs.Judge.{is2a, is2b, is2c}
 use Rattle.bisimulation.specs.Triples.{ahead}
 use Rattle.bisimulation.proofs.ClauseLaws.{is2a-e, is2a-i, is2b-e, is2b-i, is2c-e, is2c-i}
-use Rattle.obligations.specs.Obligation.{outcomeOf, isApart, obligationAt}
+use Rattle.outcomes.specs.Obligation.{outcomeOf, isApart, obligationAt}
 use Rattle.obligations.specs.CheckAnswers.{startsAnswer, labelsAnswer}
 use Rattle.obligations.specs.Judging.{Check, labelsOf, leftStep, rightStep, pairChecks, checksBy, checks, isObligation}
 use Rattle.obligations.specs.Judging.{startsVerdict, Finding, nothing, metBy, stepVerdict, checkVerdict}

@@ -1,4 +1,3 @@
 -- Laws of obligations.
-pub mod ObligationLaws
 pub mod JudgingLaws
 pub mod OnSidesLaws

@@ -23,15 +23,15 @@ use Rattle.sides.specs.Side.{systemIn, startIn, relatedTo, enteredFrom, linkedF
 use Rattle.sides.specs.Views.{viewIn}
 use Rattle.sides.specs.Built.{Linked}
 use Rattle.obligations.specs.declared.Checked.the-variants.{Passed, Refused}
-use Rattle.obligations.specs.declared.Clause.the-variants.{Step}
-use Rattle.obligations.specs.declared.Outcome.the-variants.{Met}
+use Rattle.outcomes.specs.declared.Clause.the-variants.{Step}
+use Rattle.outcomes.specs.declared.Outcome.the-variants.{Met}
 use Rattle.obligations.specs.declared.Run.{Run}
 use Rattle.obligations.specs.CheckAnswers.{startsAnswer}
-use Rattle.obligations.specs.Obligation.{withoutStep, obligationOf, obligationAt}
-use Rattle.obligations.proofs.ObligationLaws.{Faces, Ranked}
+use Rattle.outcomes.specs.Obligation.{withoutStep, obligationOf, obligationAt}
+use Rattle.outcomes.proofs.ObligationLaws.{Faces, Ranked}
 use Rattle.obligations.specs.Judging.{checksBy, checks, startsVerdict}
 use Rattle.obligations.specs.OnSides.{checksIn, startsIn, asChecked, stutterAt, matchRow, facingIn, obligationIn}
-use Rattle.obligations.proofs.ObligationLaws.{obligation-is}
+use Rattle.outcomes.proofs.ObligationLaws.{obligation-is}
 
 -- ---- the checks
 

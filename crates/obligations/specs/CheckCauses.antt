@@ -8,8 +8,8 @@ use Rattle.bisimulation.specs.Clauses.{Meets2a, Meets2b, Meets2c, Meets}
 use Rattle.answers.specs.Causes.{Cause, _gives_}
 use Rattle.obligations.specs.CheckAnswers.{startsAnswer, labelsAnswer, stepAnswer}
 use Rattle.obligations.specs.Judging.{Check, labelsOf, leftStep, rightStep}
-use Rattle.obligations.specs.declared.Clause.{Clause}
-use Rattle.obligations.specs.declared.Clause.the-variants.{Step, Stutter, Match}
+use Rattle.outcomes.specs.declared.Clause.{Clause}
+use Rattle.outcomes.specs.declared.Clause.the-variants.{Step, Stutter, Match}
 
 -- 16: the starts are unrelated.
 abbrev pub startsCauses : View → ℕ → ℕ → List Cause

@@ -7,11 +7,11 @@ use lib.Dec.{eqb}
 use Rattle.lists.specs.Lists.{joinBelow}
 use Rattle.bisimulation.specs.Systems.{View, Ranks, flip, swap, stepsFrom}
 use Rattle.answers.specs.Verdicts.{Verdict, goOn, refusedWith, passIf}
-use Rattle.obligations.specs.Obligation.{failureNumber, obligationAt}
+use Rattle.outcomes.specs.Obligation.{failureNumber, obligationAt}
 use Rattle.obligations.specs.CheckAnswers.{startsAnswer, labelsAnswer, stepAnswer}
-use Rattle.obligations.specs.declared.Clause.{Clause}
-use Rattle.obligations.specs.declared.Outcome.{Outcome}
-use Rattle.obligations.specs.declared.Outcome.the-variants.{Met, Failed}
+use Rattle.outcomes.specs.declared.Clause.{Clause}
+use Rattle.outcomes.specs.declared.Outcome.{Outcome}
+use Rattle.outcomes.specs.declared.Outcome.the-variants.{Met, Failed}
 
 -- One thing that is looked at: the labels of the pair s, t; the obligation of left step j; the obligation of right step j.
 pub data Check : Type 0 where

@@ -1,4 +1,3 @@
-pub mod Obligation
 pub mod CheckAnswers
 pub mod Judging
 pub mod CheckCauses

@@ -11,12 +11,12 @@ use Rattle.certificates.specs.declared.Sizes.{Sizes}
 use Rattle.answers.specs.Verdicts.{Verdict, goOn, refusedWith}
 use Rattle.sides.specs.Side.{systemIn, startIn, relatedTo, enteredFrom, stepsIn}
 use Rattle.sides.specs.Views.{viewIn}
-use Rattle.obligations.specs.Obligation.{obligationOf}
+use Rattle.outcomes.specs.Obligation.{obligationOf}
 use Rattle.obligations.specs.Judging.{Check, checksBy, startsVerdict}
 use Rattle.obligations.specs.declared.Checked.{Checked}
 use Rattle.obligations.specs.declared.Checked.the-variants.{Passed, Refused}
-use Rattle.obligations.specs.declared.Facing.{Facing}
-use Rattle.obligations.specs.declared.Outcome.{Outcome}
+use Rattle.outcomes.specs.declared.Facing.{Facing}
+use Rattle.outcomes.specs.declared.Outcome.{Outcome}
 use Rattle.obligations.specs.declared.Run.{Run}
 
 -- The checks of the related pairs, the steps in the order in which the links lead along them.

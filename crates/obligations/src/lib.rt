@@ -1,10 +1,13 @@
-// One obligation, document 01's duty: an own step from s to u, at a state t of the other side that is related to s. It is tested on words, so it
-// costs a few instructions. The test on words does not know which side is which, or how steps are told apart: it is handed the sets of states. On two
-// sides these are one read each, and so is the test of the starts.
+// One obligation on two sides: each of the sets that its outcome is told by is one read, and so are its ranks in a certificate; and the test of the
+// starts. Both know no table.
 use answers::Answer;
 use certificates::Sizes;
 use lists::byte;
 use lists::part_of;
+use outcomes::Clause;
+use outcomes::Facing;
+use outcomes::Outcome;
+use outcomes::without_step;
 use sides::Side;
 use sides::entered;
 use sides::from;
@@ -12,44 +15,9 @@ use sides::initial;
 use sides::related;
 use sides::to;
 use tables::Head;
-use words::Row;
 ghost use mathlib.Core.Path.{_≡_};
-ghost use lib.Dec.{ltb};
-ghost use mathlib.Core.Bool.{_&&_};
-ghost use Rattle.obligations.specs.Obligation.{firstFalling, staysAt, withoutStep, clauseNumber, failureNumber};
 ghost use Rattle.obligations.specs.CheckAnswers.{placeAnswer};
 ghost use Rattle.obligations.specs.OnSides.{startsIn, asChecked, leftRun, rightRun, stutterAt, matchRow, obligationIn};
-
-// The clause that meets an obligation: 2a, 2b or 2c.
-pub enum Clause {
-    Step,
-    Stutter,
-    Match,
-}
-
-// Why an obligation fails, document 01's cause: 18 or 19.
-pub enum Failure {
-    Apart,
-    Rank,
-}
-
-// The outcome of an obligation.
-pub enum Outcome {
-    Met(Clause),
-    Failed(Failure),
-}
-
-// What an obligation looks at.
-struct Facing {
-    // The states of the other side that are related to s, and to u.
-    from: Row,
-    to: Row,
-    // The states that steps from t enter: steps that answer this one, and silent steps.
-    serving: Row,
-    silent: Row,
-    // Whether the step is silent.
-    quiet: bool,
-}
 
 // Where the A ranks and the C ranks of a side begin in a certificate, and how many states the other side has. The widths are such that no sum of them
 // is too large.
@@ -70,33 +38,6 @@ pub struct Place {
 pub enum Checked {
     Passed,
     Refused(Answer),
-}
-
-impl Clause {
-    // The clause's number: 1, 2 or 3.
-    pub fn number(self) -> usize
-        ensures { λ r. ⌜ r ≡ clauseNumber self ⌝ }
-    {
-        let clause = self;
-        match clause {
-            Clause::Step => 1,
-            Clause::Stutter => 2,
-            Clause::Match => 3,
-        }
-    }
-}
-
-impl Failure {
-    // The failure's number: 18 or 19.
-    pub fn number(self) -> usize
-        ensures { λ r. ⌜ r ≡ failureNumber self ⌝ }
-    {
-        let failure = self;
-        match failure {
-            Failure::Apart => 18,
-            Failure::Rank => 19,
-        }
-    }
 }
 
 impl Place {
@@ -152,70 +93,6 @@ impl Run {
         }
     }
 }
-
-// ---- on words
-
-// The smallest state of the set at which the rank is below that at t, and 64 where there is none.
-fn falling_state(set: Row, ranks: &[u8], t: usize) -> usize
-    ensures { λ r. ⌜ r ≡ firstFalling (set .0) (now (ranks .entry)) t ⌝ }
-{
-    let here = byte(ranks, t);
-    let mut left = set;
-    let mut v = left.first();
-    while v < Head::MAX_STATES {
-        if byte(ranks, v) < here {
-            return v;
-        }
-        left = left.remove(v);
-        v = left.first();
-    }
-    Head::MAX_STATES
-}
-
-// Whether the step stays inside a block: it is silent, and u and t are related.
-fn stays(facing: Facing, t: usize) -> bool
-    ensures { λ r. ⌜ r ≡ staysAt facing t ⌝ }
-{
-    if facing.quiet {
-        let to = facing.to;
-        return to.has(t);
-    }
-    false
-}
-
-// Whether 2b holds, for the A ranks of (s, t) before and (u, t) after the step.
-fn meets_2b(facing: Facing, t: usize, before: usize, after: usize) -> bool
-    ensures { λ r. ⌜ r ≡ (staysAt facing t && ltb after before) ⌝ }
-{
-    if stays(facing, t) {
-        return after < before;
-    }
-    false
-}
-
-// The outcome where 2a does not hold: the first of 2b and 2c that holds, else the failure. `before` and `after` are the A ranks of (s, t) and of
-// (u, t), and `ranks` has the C ranks of this step at each state of the other side.
-fn without_step(facing: Facing, t: usize, before: usize, after: usize, ranks: &[u8]) -> Outcome
-    ensures { λ r. ⌜ r ≡ withoutStep facing t before after (now (ranks .entry)) ⌝ }
-{
-    if meets_2b(facing, t, before, after) {
-        return Outcome::Met(Clause::Stutter);
-    }
-    let silent = facing.silent;
-    let ahead = silent.intersect(facing.from);
-    if falling_state(ahead, ranks, t) < Head::MAX_STATES {
-        return Outcome::Met(Clause::Match);
-    }
-    if stays(facing, t) {
-        return Outcome::Failed(Failure::Rank);
-    }
-    if ahead.first() < Head::MAX_STATES {
-        return Outcome::Failed(Failure::Rank);
-    }
-    Outcome::Failed(Failure::Apart)
-}
-
-// ---- on two sides
 
 // The A rank of s at t; a state of 64 or more has rank 0.
 fn stutter_at(certificate: &[u8], run: Run, s: usize, t: usize) -> usize

@@ -21,7 +21,7 @@ use Rattle.certificates.specs.declared.Sizes.{Sizes}
 use Rattle.certificates.specs.Layout.{sizesFor, sizesOf, rowLength, certificateLength}
 use Rattle.certificates.specs.CertificateModel.{AreBytes, viewOf}
 use Rattle.certificate_reader.proofs.CertificateLaws.{relation-ok, sizes-are, view-formed}
-use Rattle.sides.specs.Relation.{rowWords, columnWords}
+use Rattle.relation_words.specs.Relation.{rowWords, columnWords}
 use Rattle.sides.specs.Side.{systemIn, startIn}
 use Rattle.sides.specs.Built.{SideOf}
 use Rattle.sides.specs.Views.{viewIn}
@@ -39,10 +39,12 @@ use Rattle.examination.specs.Examine.{examined}
 use Rattle.examination.specs.OnSides.{examinedIn}
 use Rattle.examination.proofs.CheckedLaws.{was-passed, was-refused}
 use Rattle.examination.proofs.MeasuredLaws.{examination-is}
-use Rattle.ranking.specs.Make.{InputsRead, readVerdict, fileFor, madeVerdict, outputAfter, makeAnswer, makeOutput}
-use Rattle.ranking.specs.declared.Heads.{Heads}
+use Rattle.inputs.specs.Inputs.{InputsRead, readVerdict}
+use Rattle.inputs.proofs.InputLaws.{inputs-read}
+use Rattle.ranking.specs.Make.{fileFor, madeVerdict, outputAfter, makeAnswer, makeOutput}
+use Rattle.inputs.specs.declared.Heads.{Heads}
 use Rattle.ranking.specs.OnSides.{examinedOf, ranksMade, filledAfter}
-use Rattle.ranking.proofs.MakeAnswers.{inputs-read, made-by, room-verdict}
+use Rattle.ranking.proofs.MakeAnswers.{made-by, room-verdict}
 
 -- the view of two tables and a relation that are read is well formed
 pub formed : (left right relation : List ℕ) → InputsRead left right relation → AreBytes relation → WellFormed (viewOf left right relation)

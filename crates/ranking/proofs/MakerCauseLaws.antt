@@ -11,18 +11,19 @@ use Rattle.answers.proofs.DecideLaws.{ltb-decides}
 use Rattle.answers.proofs.VerdictLaws.{Decided, Anything, decided-none, decided-test, decided-then, then-cong, then-then}
 use Rattle.tables.specs.Table.{startOf}
 use Rattle.table_reader.specs.TableReading.{readTable}
-use Rattle.table_reader.specs.TableAnswers.{tableVerdict}
+use Rattle.table_reader.specs.TableVerdicts.{tableVerdict}
 use Rattle.table_reader.specs.TableCauses.{tableCauses}
 use Rattle.table_reader.proofs.TableCauseLaws.{formed-good, after-table, table-numbers}
 use Rattle.certificates.specs.Layout.{sizesOf, certificateLength}
 use Rattle.certificates.specs.CertificateModel.{AreBytes, viewOf}
 use Rattle.certificate_reader.specs.CertificateReading.{readRelation}
-use Rattle.certificate_reader.specs.CertificateAnswers.{relationVerdict}
+use Rattle.certificate_reader.specs.CertificateVerdicts.{relationVerdict}
 use Rattle.certificate_reader.specs.CertificateCauses.{relationCauses}
 use Rattle.certificate_reader.proofs.CertificateCauseLaws.{relation-decided, relation-none-good, relation-numbers}
 use Rattle.examination.specs.ExaminationCauses.{examinationCauses}
 use Rattle.examination.proofs.ExamineLaws.{examined-decided, examination-numbers}
-use Rattle.ranking.specs.Make.{InputsRead, readVerdict, roomVerdict, madeVerdict, makeVerdict}
+use Rattle.inputs.specs.Inputs.{InputsRead, readVerdict}
+use Rattle.ranking.specs.Make.{roomVerdict, madeVerdict, makeVerdict}
 use Rattle.ranking.specs.MakerCauses.{roomCauses, makerCauses, makerNumber}
 use Rattle.ranking.proofs.MakeSidesLaws.{formed}
 

@@ -2,7 +2,6 @@
 -- 16, then 17 and 22 in judging order, then 23; the first cause that applies, or the length L. Where it succeeds the file stands at the front of the
 -- output and the bytes after L stay; otherwise the output is as it was.
 use Prim.Native.Nat.{ℕ}
-use mathlib.Core.Path.{_≡_}
 use mathlib.Core.Bool.{cond}
 use mathlib.Core.List.{List}
 use lib.Dec.{ltb}
@@ -13,43 +12,11 @@ use Rattle.answers.specs.Numbers.{sixNumbers}
 use Rattle.answers.specs.Verdicts.{Verdict, goOn, refusedWith, _andThen_, passed, answerOf}
 use Rattle.answers.specs.declared.Answer.{Answer}
 use Rattle.tables.specs.Table.{startOf}
-use Rattle.tables.specs.declared.Head.{Head}
-use Rattle.table_reader.specs.TableReading.{readTable}
-use Rattle.table_reader.specs.TableAnswers.{tableVerdict}
-use Rattle.table_reader.specs.declared.TableRead.the-variants as table
 use Rattle.certificates.specs.Layout.{sizesOf, certificateLength}
 use Rattle.certificates.specs.CertificateModel.{viewOf}
-use Rattle.certificates.specs.declared.Sizes.{Sizes}
-use Rattle.certificate_reader.specs.CertificateReading.{readRelation}
-use Rattle.certificate_reader.specs.CertificateAnswers.{relationVerdict}
-use Rattle.certificate_reader.specs.declared.RelationRead.the-variants as relations
+use Rattle.inputs.specs.Inputs.{readVerdict}
 use Rattle.files.specs.File.{certificateFile}
 use Rattle.examination.specs.Examine.{examined}
-use Rattle.ranking.specs.declared.Heads.{Heads}
-use Rattle.ranking.specs.declared.Inputs.{Inputs}
-use Rattle.ranking.specs.declared.Inputs.the-variants.{Read, Refused}
-
--- Both tables and the relation are read.
-pub record InputsRead (left right relation : List ℕ) : Type 0 where
-  pub head : Head
-  pub head′ : Head
-  pub sizes : Sizes
-  pub left-good : readTable left ≡ table.Good head
-  pub right-good : readTable right ≡ table.Good head′
-  pub relation-good : readRelation (sizesOf left right) relation ≡ relations.Good sizes
-
--- The verdict on the three files: the headers of the tables, or the first refusal.
-unfoldable pub readVerdict : List ℕ → List ℕ → List ℕ → Verdict Heads
-readVerdict left right relation =
-    tableVerdict 0 (readTable left) andThen λ head.
-    tableVerdict 1 (readTable right) andThen λ head′.
-    relationVerdict 2 (readRelation (sizesOf left right) relation) andThen λ sizes.
-    goOn (record { left = head; right = head′ })
-
--- The code's enum for it.
-abbrev pub asInputs : Verdict Heads → Inputs
-asInputs (goOn heads) = Read heads
-asInputs (refusedWith answer) = Refused answer
 
 -- 21 where the output has fewer than L bytes.
 unfoldable pub roomVerdict : ℕ → ℕ → Verdict (Unit {0})

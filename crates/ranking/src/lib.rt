@@ -1,83 +1,29 @@
 // The maker: for any byte strings and any output its six numbers and every byte of the output. It reads the files, measures and examines the two sides,
 // and only then fills the output.
 use answers::Answer;
-use certificate_reader::RelationRead;
-use certificate_reader::read_relation;
 use certificates::Sizes;
 use examination::examine;
 use files::fill;
+use inputs::Heads;
+use inputs::Inputs;
+use inputs::read;
 use lengths::measure;
 use obligations::Checked;
 use rank_grids::match_ranks;
 use rank_grids::stutter_ranks;
+use relation_words::column_words;
+use relation_words::row_words;
 use sides::Side;
-use sides::column_words;
-use sides::row_words;
 use sides::side_of;
-use table_reader::TableRead;
-use table_reader::read_table;
-use table_reader::table_answer;
-use tables::Head;
 use tables::labels;
 use tables::steps;
 ghost use mathlib.Core.Path.{_≡_};
 ghost use Rattle.answers.specs.Numbers.{sixNumbers};
-ghost use Rattle.answers.specs.Verdicts.{goOn, answerOf, refusalOf};
+ghost use Rattle.answers.specs.Verdicts.{goOn, answerOf};
 ghost use Rattle.certificates.specs.Layout.{certificateLength};
-ghost use Rattle.certificate_reader.specs.CertificateAnswers.{relationVerdict};
-ghost use Rattle.ranking.specs.Make.{readVerdict, asInputs, makeAnswer, makeOutput};
+ghost use Rattle.inputs.specs.Inputs.{readVerdict};
+ghost use Rattle.ranking.specs.Make.{makeAnswer, makeOutput};
 ghost use Rattle.ranking.specs.OnSides.{examinedOf, ranksMade, filledAfter};
-
-// The headers of the two tables.
-pub struct Heads {
-    pub left: Head,
-    pub right: Head,
-}
-
-// The headers of two tables that are read with a relation between them, or the answer that refuses one of the three.
-pub enum Inputs {
-    Read(Heads),
-    Refused(Answer),
-}
-
-// The answer of a relation's read that is refused; for any other it is blank.
-fn relation_answer(read: RelationRead) -> Answer
-    ensures { λ r. ⌜ r ≡ refusalOf (relationVerdict 2 read) ⌝ }
-{
-    let RelationRead::Refused(refusal) = read else {
-        return Answer {
-            code: 0,
-            file: 0,
-            a: 0,
-            b: 0,
-            c: 0,
-            d: 0,
-        };
-    };
-    refusal.answer(2)
-}
-
-// Reads the left table, the right table, and the relation between them.
-pub fn read(left: &[u8], right: &[u8], relation: &[u8]) -> Inputs
-    ensures { λ r. ⌜ r ≡ asInputs (readVerdict (now (left .entry)) (now (right .entry)) (now (relation .entry))) ⌝ }
-{
-    let first = read_table(left);
-    let TableRead::Good(head) = first else {
-        return Inputs::Refused(table_answer(first, 0));
-    };
-    let second = read_table(right);
-    let TableRead::Good(head2) = second else {
-        return Inputs::Refused(table_answer(second, 1));
-    };
-    let third = read_relation(relation, Sizes::of(head, head2));
-    let RelationRead::Good(_) = third else {
-        return Inputs::Refused(relation_answer(third));
-    };
-    Inputs::Read(Heads {
-        left: head,
-        right: head2,
-    })
-}
 
 // What is made of two sides: what the examination refuses, or the file, over the front of the output, and its length.
 fn make_of(ours: &Side, theirs: &Side, relation: &[u8], sizes: Sizes, output: &mut [u8]) -> Answer

@@ -1,5 +1,4 @@
--- The laws of sides: the relation as words, stores, how a side is built, the walk along its links, and the one law that two sides hold the view of the bytes.
-pub mod RelationLaws
+-- The laws of sides: stores, how a side is built, the walk along its links, and the one law that two sides hold the view of the bytes.
 pub mod StoreLaws
 pub mod BuildLaws
 pub mod LinkLaws

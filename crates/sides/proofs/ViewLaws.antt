@@ -18,11 +18,11 @@ use Rattle.table_reader.specs.declared.TableRead.the-variants.{Good}
 use Rattle.table_reader.specs.TableReading.{readTable}
 use Rattle.table_reader.proofs.TableLaws.{table-ok, labels-length, steps-length, table-formed, start-first}
 use Rattle.certificates.specs.CertificateModel.{AreBytes, viewOf}
-use Rattle.sides.specs.Relation.{rowWords, columnWords}
+use Rattle.relation_words.specs.Relation.{rowWords, columnWords}
 use Rattle.sides.specs.Side.{cellAt, relatedPart, labelPart, fromPart, toPart, systemIn, startIn, relatedTo}
 use Rattle.sides.specs.Built.{SideOf, Linked}
 use Rattle.sides.specs.Views.{viewIn}
-use Rattle.sides.proofs.RelationLaws.{rows-length, rows-related, columns-length, columns-flipped}
+use Rattle.relation_words.proofs.RelationLaws.{rows-length, rows-related, columns-length, columns-flipped}
 use Rattle.sides.proofs.StoreLaws.{filled}
 use Rattle.sides.proofs.LinkedLaws.{linked}
 

@@ -14,11 +14,11 @@ use Rattle.answers.proofs.DecideLaws.{ltb-decides, leb-decides, eqb-decides, no
 use Rattle.answers.proofs.VerdictLaws.{Decided, decided-none, decided-end, decided-test, decided-search, decided-then, none-on, on-none}
 use Rattle.tables.specs.declared.Head.{Head}
 use Rattle.tables.specs.Table.{versionOf, statesOf, startOf, stepsOf, tableLength, stepsPart}
-use Rattle.table_reader.specs.declared.TableRefusal.the-variants.{Short, Magic, Version, States, Start, Steps, Length, StepEnd, Doubled}
+use Rattle.refusals.specs.declared.TableRefusal.the-variants.{Short, Magic, Version, States, Start, Steps, Length, StepEnd, Doubled}
 use Rattle.table_reader.specs.declared.TableRead.{TableRead}
 use Rattle.table_reader.specs.declared.TableRead.the-variants.{Good, Refused}
 use Rattle.table_reader.specs.TableReading.{headOf, readSizes, readHeader, readSteps, withSteps, readTable}
-use Rattle.table_reader.specs.TableAnswers.{tableVerdict}
+use Rattle.table_reader.specs.TableVerdicts.{tableVerdict}
 use Rattle.table_reader.specs.TableCauses.{headerCauses, endCauses, doubledCauses, tableCauses, WellFormedTable}
 use Rattle.table_reader.proofs.TestLaws.{magic-decides, states-decides, outside-decides, doubled-decides}
 

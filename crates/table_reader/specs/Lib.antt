@@ -1,3 +1,3 @@
 pub mod TableReading
-pub mod TableAnswers
+pub mod TableVerdicts
 pub mod TableCauses

@@ -21,7 +21,7 @@ use Rattle.tables.specs.Table.{
   toOf,
 }
 use Rattle.tables.specs.declared.Head.{Head}
-use Rattle.table_reader.specs.declared.TableRefusal.the-variants.{Short, Magic, Version, States, Start, Steps, Length, StepEnd, Doubled}
+use Rattle.refusals.specs.declared.TableRefusal.the-variants.{Short, Magic, Version, States, Start, Steps, Length, StepEnd, Doubled}
 use Rattle.table_reader.specs.declared.TableRead.{TableRead}
 use Rattle.table_reader.specs.declared.TableRead.the-variants.{Good, Refused}
 

@@ -2,6 +2,7 @@
 use answers::Answer;
 use lists::byte;
 use lists::read_be16;
+use refusals::TableRefusal;
 use tables::Head;
 use tables::from;
 use tables::states;
@@ -14,59 +15,12 @@ ghost use Rattle.lists.specs.Below.{firstBelow};
 ghost use Rattle.answers.specs.Verdicts.{refusalOf};
 ghost use Rattle.tables.specs.Table.{magicFits};
 ghost use Rattle.table_reader.specs.TableReading.{headOf, readSizes, readHeader, readTable, endsOutside, doubled};
-ghost use Rattle.table_reader.specs.TableAnswers.{tableAnswer, tableVerdict};
+ghost use Rattle.table_reader.specs.TableVerdicts.{tableVerdict};
 
-// Why a table is refused; the last two carry the first such step.
-pub enum TableRefusal {
-    Short,
-    Magic,
-    Version,
-    States,
-    Start,
-    Steps,
-    Length,
-    StepEnd(usize),
-    Doubled(usize),
-}
-
+// What reading a table gives.
 pub enum TableRead {
     Good(Head),
     Refused(TableRefusal),
-}
-
-impl TableRefusal {
-    // The six numbers of the refusal of the file with this number.
-    pub fn answer(self, file: usize) -> Answer
-        ensures { λ r. ⌜ r ≡ tableAnswer self file ⌝ }
-    {
-        let refusal = self;
-        let mut a: usize = 0;
-        let code: usize = match refusal {
-            TableRefusal::Short => 1,
-            TableRefusal::Magic => 2,
-            TableRefusal::Version => 3,
-            TableRefusal::States => 4,
-            TableRefusal::Start => 5,
-            TableRefusal::Steps => 6,
-            TableRefusal::Length => 7,
-            TableRefusal::StepEnd(j) => {
-                a = j;
-                8
-            }
-            TableRefusal::Doubled(j) => {
-                a = j;
-                9
-            }
-        };
-        Answer {
-            code,
-            file,
-            a,
-            b: 0,
-            c: 0,
-            d: 0,
-        }
-    }
 }
 
 // Whether the first three bytes are "TP" and this third one.

@@ -9,7 +9,7 @@ use Rattle.lists.specs.Below.{firstBelow}
 use Rattle.certificates.specs.declared.Sizes.{Sizes}
 use Rattle.certificate_reader.specs.declared.CertificateRead.{CertificateRead}
 use Rattle.certificate_reader.specs.declared.CertificateRead.the-variants.{Good, Refused}
-use Rattle.certificate_reader.specs.declared.CertificateRefusal.the-variants.{RowBit}
+use Rattle.refusals.specs.declared.CertificateRefusal.the-variants.{RowBit}
 use Rattle.certificate_reader.specs.CertificateReading.{readCertificate, readHeader, readRows, withRows, wideRow}
 use Rattle.certificate_reader.proofs.read_certificate.Statement.{statement}
 use Rattle.certificate_reader.proofs.read_certificate.Tie as tie

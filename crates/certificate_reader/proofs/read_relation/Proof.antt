@@ -10,7 +10,7 @@ use borrow.Author.Needs.{needs}
 use Rattle.lists.specs.Below.{firstBelow}
 use Rattle.certificates.specs.declared.Sizes.{Sizes}
 use Rattle.certificate_reader.specs.declared.RelationRead.the-variants.{Good, Refused}
-use Rattle.certificate_reader.specs.declared.RelationRefusal.the-variants.{Length, RowBit}
+use Rattle.refusals.specs.declared.RelationRefusal.the-variants.{Length, RowBit}
 use Rattle.certificate_reader.specs.CertificateReading.{readRelation, wideRow}
 use Rattle.certificate_reader.proofs.read_relation.Statement.{statement}
 use Rattle.certificate_reader.proofs.read_relation.Tie as tie

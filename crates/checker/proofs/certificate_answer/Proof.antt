@@ -2,7 +2,7 @@
 use mathlib.Core.Path.{sym, ap, _∙_}
 use Rattle.certificate_reader.specs.declared.CertificateRead.{CertificateRead}
 use Rattle.answers.specs.Verdicts.{refusalOf}
-use Rattle.certificate_reader.specs.CertificateAnswers.{certificateVerdict}
+use Rattle.certificate_reader.specs.CertificateVerdicts.{certificateVerdict}
 use borrow.Author.Needs.{needs}
 use Rattle.checker.proofs.certificate_answer.Statement.{statement}
 use Rattle.checker.proofs.certificate_answer.Tie as tie

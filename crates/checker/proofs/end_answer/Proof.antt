@@ -1,6 +1,6 @@
 -- `checker::end_answer` meets its contract, case by case. Assumes nothing.
 use mathlib.Core.Path.{sym, ap}
-use Rattle.checker.specs.SideVerdicts.{endAnswer}
+use Rattle.sweeps.specs.SideVerdicts.{endAnswer}
 use borrow.Author.Needs.{needs}
 use Rattle.checker.proofs.end_answer.Statement.{statement}
 use Rattle.checker.proofs.end_answer.Tie as tie

@@ -3,7 +3,7 @@ use mathlib.Core.Path.{ap, _∙_}
 use native.Mathlib.Omega.{arith}
 use denote.Ref.{now}
 use Rattle.certificates.specs.CertificateModel.{AreBytes}
-use Rattle.checker.specs.SideVerdicts.{endAnswer}
+use Rattle.sweeps.specs.SideVerdicts.{endAnswer}
 use Rattle.checker.proofs.JudgeReadLaws.{AnswersAs, answers}
 use borrow.Author.Needs.{needs}
 use Rattle.checker.proofs.judge_read.Statement.{statement}

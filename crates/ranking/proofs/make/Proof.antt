@@ -1,7 +1,8 @@
 -- `ranking::make` meets its contract: what the reading refuses, or what is made of what was read. Assumes nothing.
 use mathlib.Core.Path.{sym, _∙_}
 use denote.Ref.{now}
-use Rattle.ranking.proofs.MakeAnswers.{was-read, was-refused, not-read}
+use Rattle.inputs.proofs.InputLaws.{was-read, was-refused}
+use Rattle.ranking.proofs.MakeAnswers.{not-read}
 use borrow.Author.Needs.{needs}
 use Rattle.ranking.proofs.make.Statement.{statement}
 use Rattle.ranking.proofs.make.Tie as tie

@@ -7,7 +7,8 @@ use lib.ListN.{length}
 use Rattle.certificates.specs.Layout.{certificateLength}
 use Rattle.certificates.specs.CertificateModel.{AreBytes}
 use Rattle.certificate_reader.proofs.CertificateLaws.{sizes-are}
-use Rattle.ranking.proofs.MakeAnswers.{inputs-read, too-short}
+use Rattle.inputs.proofs.InputLaws.{inputs-read}
+use Rattle.ranking.proofs.MakeAnswers.{too-short}
 use Rattle.ranking.proofs.MakeSidesLaws.{made-of-sides}
 use borrow.Author.Needs.{needs}
 use Rattle.ranking.proofs.make_read.Statement.{statement}

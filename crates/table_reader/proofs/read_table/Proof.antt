@@ -9,7 +9,7 @@ use Rattle.lists.specs.Below.{firstBelow}
 use Rattle.tables.specs.declared.Head.{Head}
 use Rattle.table_reader.specs.declared.TableRead.{TableRead}
 use Rattle.table_reader.specs.declared.TableRead.the-variants.{Good, Refused}
-use Rattle.table_reader.specs.declared.TableRefusal.the-variants.{StepEnd, Doubled}
+use Rattle.refusals.specs.declared.TableRefusal.the-variants.{StepEnd, Doubled}
 use Rattle.table_reader.specs.TableReading.{readTable, readHeader, readSteps, withSteps, endsOutside, doubled}
 use Rattle.table_reader.proofs.read_table.Statement.{statement}
 use Rattle.table_reader.proofs.read_table.Tie as tie

@@ -2,7 +2,7 @@
 use mathlib.Core.Path.{sym, ap, _∙_}
 use Rattle.answers.specs.Verdicts.{refusalOf}
 use Rattle.table_reader.specs.declared.TableRead.{TableRead}
-use Rattle.table_reader.specs.TableAnswers.{tableVerdict}
+use Rattle.table_reader.specs.TableVerdicts.{tableVerdict}
 use borrow.Author.Needs.{needs}
 use Rattle.table_reader.proofs.table_answer.Statement.{statement}
 use Rattle.table_reader.proofs.table_answer.Tie as tie

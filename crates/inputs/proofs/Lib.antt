@@ -1,0 +1,2 @@
+-- Laws of inputs.
+pub mod InputLaws

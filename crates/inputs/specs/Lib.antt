@@ -1,0 +1,2 @@
+-- Two tables and a relation, read together.
+pub mod Inputs

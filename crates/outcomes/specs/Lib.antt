@@ -1,0 +1,2 @@
+-- The outcome of one obligation.
+pub mod Obligation

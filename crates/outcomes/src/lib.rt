@@ -1,0 +1,127 @@
+// The outcome of one obligation, document 01's duty: an own step from s to u, at a state t of the other side that is related to s. It is told on words,
+// so it costs a few instructions, and by whoever hands over the sets of states: nothing here knows which side is which, or how steps are told apart.
+use lists::byte;
+use tables::Head;
+use words::Row;
+ghost use mathlib.Core.Path.{_≡_};
+ghost use lib.Dec.{ltb};
+ghost use mathlib.Core.Bool.{_&&_};
+ghost use Rattle.outcomes.specs.Obligation.{firstFalling, staysAt, withoutStep, clauseNumber, failureNumber};
+
+// The clause that meets an obligation: 2a, 2b or 2c.
+pub enum Clause {
+    Step,
+    Stutter,
+    Match,
+}
+
+// Why an obligation fails, document 01's cause: 18 or 19.
+pub enum Failure {
+    Apart,
+    Rank,
+}
+
+// The outcome of an obligation.
+pub enum Outcome {
+    Met(Clause),
+    Failed(Failure),
+}
+
+// What an obligation looks at.
+pub struct Facing {
+    // The states of the other side that are related to s, and to u.
+    pub from: Row,
+    pub to: Row,
+    // The states that steps from t enter: steps that answer this one, and silent steps.
+    pub serving: Row,
+    pub silent: Row,
+    // Whether the step is silent.
+    pub quiet: bool,
+}
+
+impl Clause {
+    // The clause's number: 1, 2 or 3.
+    pub fn number(self) -> usize
+        ensures { λ r. ⌜ r ≡ clauseNumber self ⌝ }
+    {
+        let clause = self;
+        match clause {
+            Clause::Step => 1,
+            Clause::Stutter => 2,
+            Clause::Match => 3,
+        }
+    }
+}
+
+impl Failure {
+    // The failure's number: 18 or 19.
+    pub fn number(self) -> usize
+        ensures { λ r. ⌜ r ≡ failureNumber self ⌝ }
+    {
+        let failure = self;
+        match failure {
+            Failure::Apart => 18,
+            Failure::Rank => 19,
+        }
+    }
+}
+
+// The smallest state of the set at which the rank is below that at t, and 64 where there is none.
+fn falling_state(set: Row, ranks: &[u8], t: usize) -> usize
+    ensures { λ r. ⌜ r ≡ firstFalling (set .0) (now (ranks .entry)) t ⌝ }
+{
+    let here = byte(ranks, t);
+    let mut left = set;
+    let mut v = left.first();
+    while v < Head::MAX_STATES {
+        if byte(ranks, v) < here {
+            return v;
+        }
+        left = left.remove(v);
+        v = left.first();
+    }
+    Head::MAX_STATES
+}
+
+// Whether the step stays inside a block: it is silent, and u and t are related.
+fn stays(facing: Facing, t: usize) -> bool
+    ensures { λ r. ⌜ r ≡ staysAt facing t ⌝ }
+{
+    if facing.quiet {
+        let to = facing.to;
+        return to.has(t);
+    }
+    false
+}
+
+// Whether 2b holds, for the A ranks of (s, t) before and (u, t) after the step.
+fn meets_2b(facing: Facing, t: usize, before: usize, after: usize) -> bool
+    ensures { λ r. ⌜ r ≡ (staysAt facing t && ltb after before) ⌝ }
+{
+    if stays(facing, t) {
+        return after < before;
+    }
+    false
+}
+
+// The outcome where 2a does not hold: the first of 2b and 2c that holds, else the failure. `before` and `after` are the A ranks of (s, t) and of
+// (u, t), and `ranks` has the C ranks of this step at each state of the other side.
+pub fn without_step(facing: Facing, t: usize, before: usize, after: usize, ranks: &[u8]) -> Outcome
+    ensures { λ r. ⌜ r ≡ withoutStep facing t before after (now (ranks .entry)) ⌝ }
+{
+    if meets_2b(facing, t, before, after) {
+        return Outcome::Met(Clause::Stutter);
+    }
+    let silent = facing.silent;
+    let ahead = silent.intersect(facing.from);
+    if falling_state(ahead, ranks, t) < Head::MAX_STATES {
+        return Outcome::Met(Clause::Match);
+    }
+    if stays(facing, t) {
+        return Outcome::Failed(Failure::Rank);
+    }
+    if ahead.first() < Head::MAX_STATES {
+        return Outcome::Failed(Failure::Rank);
+    }
+    Outcome::Failed(Failure::Apart)
+}

@@ -1,0 +1,2 @@
+-- The refusals of files.
+pub mod Refusals

@@ -1,0 +1,2 @@
+-- Laws of the relation as words.
+pub mod RelationLaws

@@ -1,0 +1,2 @@
+-- The relation as words.
+pub mod Relation

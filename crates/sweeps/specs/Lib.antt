@@ -1,0 +1,3 @@
+-- All checks of two sides in judging order.
+pub mod Tallies
+pub mod SideVerdicts
