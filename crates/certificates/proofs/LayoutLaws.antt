@@ -5,8 +5,9 @@ use mathlib.Core.Path.{_≡_}
 use native.Mathlib.Nat.{mul-le-mul, mul-comm}
 use native.Mathlib.Omega.{arith}
 use lib.Arith.{digits-lt}
+use Rattle.certificates.specs.declared.Runs.{Runs}
 use Rattle.certificates.specs.declared.Sizes.{Sizes}
-use Rattle.certificates.specs.Layout.{certificateLength, rowsAt, alAt, arAt, clAt, crAt}
+use Rattle.certificates.specs.Layout.{certificateLength, certificateHeaderLength, alAt, arAt, clAt, crAt, runsOf}
 
 -- ---- the products of the sizes
 
@@ -27,17 +28,22 @@ length-limit z a b c d = let p = products-fit z a b c d in omega arith
 -- ---- the rows and the runs lie one after the other
 
 pub record RunsFollow (z : Sizes) : Type 0 where
-  pub rows-end : rowsAt z + 8 * z .n1 ≡ alAt z
+  pub rows-end : certificateHeaderLength + 8 * z .n1 ≡ alAt z
   pub al-end : alAt z + z .n1 * z .n2 ≡ arAt z
   pub ar-end : arAt z + z .n2 * z .n1 ≡ clAt z
   pub cl-end : clAt z + z .m1 * z .n2 ≡ crAt z
   pub cr-end : crAt z + z .m2 * z .n1 ≡ certificateLength z
 
 pub runs-follow : (z : Sizes) → RunsFollow z
-unfolding rowsAt alAt arAt clAt crAt certificateLength
+unfolding alAt arAt clAt crAt certificateLength
 runs-follow z =
     let e = mul-comm (z .n2) (z .n1) in
     record { rows-end = omega arith; al-end = omega arith; ar-end = omega arith; cl-end = omega arith; cr-end = omega arith }
+
+-- four numbers that are where the runs begin
+pub runs-are : (z : Sizes) {al ar cl cr : ℕ} → al ≡ alAt z → ar ≡ arAt z → cl ≡ clAt z → cr ≡ crAt z
+    → _≡_ {A = Runs} (record { al = al; ar = ar; cl = cl; cr = cr }) (runsOf z)
+runs-are z a b c d = rw (a, b, c, d)
 
 -- ---- a rank lies inside its run
 

@@ -19,7 +19,7 @@ use Rattle.words.specs.Bits.{hasBit}
 use Rattle.bisimulation.specs.Systems.{Bytes, Plain}
 use Rattle.tables.specs.Model.{systemOf}
 use Rattle.certificates.specs.declared.Sizes.{Sizes}
-use Rattle.certificates.specs.Layout.{certificateLength, rowsAt, alAt, rowsPart, rowOf}
+use Rattle.certificates.specs.Layout.{certificateLength, certificateHeaderLength, alAt, rowsPart, rowOf}
 use Rattle.certificates.specs.CertificateModel.{AreBytes, relatedIn, viewOf, ranksOf}
 use Rattle.certificates.proofs.LayoutLaws.{runs-follow}
 
@@ -35,16 +35,16 @@ part-bytes l a e h i = elim (decLt (a + i) e) [
 module _ (z : Sizes) (c : List ℕ) where
   pub rows-bytes : AreBytes c → AreBytes (rowsPart c z)
   unfolding rowsPart
-  rows-bytes = part-bytes c (rowsAt z) (alAt z)
+  rows-bytes = part-bytes c certificateHeaderLength (alAt z)
 
   pub rows-length : length c ≡ certificateLength z → length (rowsPart c z) ≡ 8 * z .n1
-  unfolding rowsPart rowsAt alAt certificateLength
+  unfolding rowsPart alAt certificateLength
   rows-length e = part-length c 11 (8 * z .n1) (omega arith)
 
   -- byte i of the rows is byte 11 + i of the certificate
-  pub rows-byte : (i : ℕ) → i < 8 * z .n1 → byteAt (rowsPart c z) i ≡ byteAt c (rowsAt z + i)
+  pub rows-byte : (i : ℕ) → i < 8 * z .n1 → byteAt (rowsPart c z) i ≡ byteAt c (certificateHeaderLength + i)
   unfolding rowsPart
-  rows-byte i h = getD-part c (rowsAt z) (alAt z) i (omega (arith, runs-follow z .rows-end))
+  rows-byte i h = getD-part c certificateHeaderLength (alAt z) i (omega (arith, runs-follow z .rows-end))
 
 -- the relation depends on the bytes of its n1 rows alone
 pub related-cong : (rows other : List ℕ) (n1 : ℕ) → ((i : ℕ) → i < 8 * n1 → byteAt rows i ≡ byteAt other i) → (s t : ℕ)
@@ -59,7 +59,7 @@ related-cong rows other n1 same s t = go (ltb s n1) refl
     go false e = refl
 
 -- a certificate that has the bytes of r where its rows stand gives the relation of r
-pub related-rows : (z : Sizes) (c r : List ℕ) → ((i : ℕ) → i < 8 * z .n1 → byteAt c (rowsAt z + i) ≡ byteAt r i) → (s t : ℕ)
+pub related-rows : (z : Sizes) (c r : List ℕ) → ((i : ℕ) → i < 8 * z .n1 → byteAt c (certificateHeaderLength + i) ≡ byteAt r i) → (s t : ℕ)
     → relatedIn (rowsPart c z) (z .n1) s t ≡ relatedIn r (z .n1) s t
 related-rows z c r same = related-cong (rowsPart c z) r (z .n1) (λ i h. rows-byte z c i h ∙ same i h)
 

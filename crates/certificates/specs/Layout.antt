@@ -5,6 +5,7 @@ use Rattle.lists.specs.Lists.{part}
 use Rattle.lists.specs.Numbers.{bigEndian}
 use Rattle.tables.specs.Table.{statesOf, stepsOf}
 use Rattle.tables.specs.declared.Head.{Head}
+use Rattle.certificates.specs.declared.Runs.{Runs}
 use Rattle.certificates.specs.declared.Sizes.{Sizes}
 
 -- The bytes of the header and of a row.
@@ -26,10 +27,7 @@ sizesOf left right = record { n1 = statesOf left; n2 = statesOf right; m1 = step
 unfoldable pub certificateLength : Sizes → ℕ
 certificateLength z = certificateHeaderLength + rowLength * z .n1 + 2 * (z .n1 * z .n2) + z .m1 * z .n2 + z .m2 * z .n1
 
--- Where the rows begin, and the runs AL, AR, CL and CR after them: n1 rows of 8 bytes; n1 times n2 bytes; n2 times n1; m1 times n2; m2 times n1.
-unfoldable pub rowsAt : Sizes → ℕ
-rowsAt z = certificateHeaderLength
-
+-- Where the runs AL, AR, CL and CR begin, after the header and the rows: n1 rows of 8 bytes; n1 times n2 bytes; n2 times n1; m1 times n2; m2 times n1.
 unfoldable pub alAt : Sizes → ℕ
 alAt z = certificateHeaderLength + rowLength * z .n1
 
@@ -42,9 +40,13 @@ clAt z = certificateHeaderLength + rowLength * z .n1 + 2 * (z .n1 * z .n2)
 unfoldable pub crAt : Sizes → ℕ
 crAt z = certificateHeaderLength + rowLength * z .n1 + 2 * (z .n1 * z .n2) + z .m1 * z .n2
 
+-- The four together.
+abbrev pub runsOf : Sizes → Runs
+runsOf z = record { al = alAt z; ar = arAt z; cl = clAt z; cr = crAt z }
+
 -- The rows, as the part of the certificate that holds them.
 unfoldable pub rowsPart : List ℕ → Sizes → List ℕ
-rowsPart c z = part c (rowsAt z) (alAt z)
+rowsPart c z = part c certificateHeaderLength (alAt z)
 
 -- Row s, a word of 64 bits, of the part that holds the rows.
 unfoldable pub rowOf : List ℕ → ℕ → ℕ

@@ -3,7 +3,7 @@ use lists::part_of;
 use tables::Head;
 use words::Row;
 ghost use mathlib.Core.Path.{_≡_};
-ghost use Rattle.certificates.specs.Layout.{sizesFor, certificateLength, rowsAt, alAt, arAt, clAt, crAt, rowsPart, rowOf};
+ghost use Rattle.certificates.specs.Layout.{sizesFor, certificateLength, runsOf, rowsPart, rowOf};
 
 // The sizes of two tables, as a certificate's header has them: states left and right, steps left and right.
 pub struct Sizes {
@@ -11,6 +11,14 @@ pub struct Sizes {
     pub n2: u8,
     pub m1: u16,
     pub m2: u16,
+}
+
+// Where the four runs of ranks begin in a certificate.
+pub struct Runs {
+    pub al: usize,
+    pub ar: usize,
+    pub cl: usize,
+    pub cr: usize,
 }
 
 impl Sizes {
@@ -38,46 +46,25 @@ impl Sizes {
         }
     }
 
-    // Where the rows begin: after the header.
-    pub fn rows_at(self) -> usize
-        ensures { λ r. ⌜ r ≡ rowsAt self ⌝ }
+    // Where the four runs of ranks begin: AL after the rows, and each of AR, CL and CR after the run before it.
+    pub fn runs(self) -> Runs
+        ensures { λ r. ⌜ r ≡ runsOf self ⌝ }
     {
-        Sizes::HEADER
-    }
-
-    // Where the left stutter ranks AL begin: after the rows.
-    pub fn al_at(self) -> usize
-        ensures { λ r. ⌜ r ≡ alAt self ⌝ }
-    {
-        self.rows_at() + Sizes::ROW * self.n1 as usize
-    }
-
-    // Where the right stutter ranks AR begin: after AL.
-    pub fn ar_at(self) -> usize
-        ensures { λ r. ⌜ r ≡ arAt self ⌝ }
-    {
-        self.al_at() + self.n1 as usize * self.n2 as usize
-    }
-
-    // Where the left match ranks CL begin: after AR.
-    pub fn cl_at(self) -> usize
-        ensures { λ r. ⌜ r ≡ clAt self ⌝ }
-    {
-        self.ar_at() + self.n1 as usize * self.n2 as usize
-    }
-
-    // Where the right match ranks CR begin: after CL.
-    pub fn cr_at(self) -> usize
-        ensures { λ r. ⌜ r ≡ crAt self ⌝ }
-    {
-        self.cl_at() + self.m1 as usize * self.n2 as usize
+        let n1 = self.n1 as usize;
+        let n2 = self.n2 as usize;
+        let al = Sizes::HEADER + Sizes::ROW * n1;
+        let ar = al + n1 * n2;
+        let cl = ar + n1 * n2;
+        let cr = cl + self.m1 as usize * n2;
+        Runs { al, ar, cl, cr }
     }
 
     // The length L of a certificate: where CR ends.
     pub fn length(self) -> usize
         ensures { λ r. ⌜ r ≡ certificateLength self ⌝ }
     {
-        self.cr_at() + self.m2 as usize * self.n1 as usize
+        let runs = self.runs();
+        runs.cr + self.m2 as usize * self.n1 as usize
     }
 }
 
@@ -85,9 +72,8 @@ impl Sizes {
 pub fn rows(certificate: &[u8], sizes: Sizes) -> &[u8]
     ensures { λ r. ⌜ now r ≡ rowsPart (now (certificate .entry)) sizes ⌝ }
 {
-    let a = sizes.rows_at();
-    let e = sizes.al_at();
-    part_of(certificate, a, e)
+    let runs = sizes.runs();
+    part_of(certificate, Sizes::HEADER, runs.al)
 }
 
 // The row of left state s, from the part that holds the rows; empty past the end.

@@ -35,7 +35,7 @@ use Rattle.tables.specs.Table.{
 }
 use Rattle.table_reader.specs.TableReading.{statesFit, endsOutside, sameStep, doubled, readSizes, readHeader, readSteps, readTable}
 use Rattle.tables.specs.Model.{systemOf}
-use Rattle.certificates.specs.Layout.{sizesOf, certificateLength, rowsAt, alAt, arAt, clAt, crAt, rowsPart, rowOf}
+use Rattle.certificates.specs.Layout.{sizesOf, certificateLength, alAt, arAt, clAt, crAt, rowsPart, rowOf}
 use Rattle.certificate_reader.specs.CertificateReading.{certificateSizesFit, wideRow, readRows, readCertificate, readRelation}
 use Rattle.certificate_reader.specs.CertificateReading as certificates
 use Rattle.certificates.specs.CertificateModel.{AreBytes, relatedIn, viewOf, ranksOf}
@@ -66,7 +66,7 @@ unfolding
     anyBelow allBelow firstBelow sumBelow countBelow bigEndian hasBit addBit hasFrom countBits firstBit is2a is2b is2c ahead
     magicFits versionOf statesOf statesFit startOf stepsOf initialOf tableLength labelsAt stepsAt stepsEnd
     labelsPart stepsPart labelOf fromOf toOf endsOutside sameStep doubled readSizes readHeader readSteps readTable
-    systemOf sizesOf certificateLength rowsAt alAt arAt clAt crAt rowsPart rowOf certificateSizesFit wideRow
+    systemOf sizesOf certificateLength alAt arAt clAt crAt rowsPart rowOf certificateSizesFit wideRow
     readRows readCertificate certificates.readHeader relatedIn viewOf ranksOf outcomeOf isApart obligationAt joinBelow stepsFrom pairChecks checksBy checks
     along startsVerdict checkVerdict pairsIn judged judgedBytes judgeVerdict judgeAnswer
     readRelation roomVerdict examined firstOf makerVerdict verdictBy mayKeep endlessAt firstChain endless
@@ -84,7 +84,7 @@ unfolding
     anyBelow allBelow firstBelow sumBelow countBelow bigEndian hasBit addBit hasFrom countBits firstBit is2a is2b is2c ahead
     magicFits versionOf statesOf statesFit startOf stepsOf initialOf tableLength labelsAt stepsAt stepsEnd
     labelsPart stepsPart labelOf fromOf toOf endsOutside sameStep doubled readSizes readHeader readSteps readTable
-    systemOf sizesOf certificateLength rowsAt alAt arAt clAt crAt rowsPart rowOf certificateSizesFit wideRow
+    systemOf sizesOf certificateLength alAt arAt clAt crAt rowsPart rowOf certificateSizesFit wideRow
     readRows readCertificate certificates.readHeader relatedIn viewOf ranksOf outcomeOf isApart obligationAt joinBelow stepsFrom pairChecks checksBy checks
     along startsVerdict checkVerdict pairsIn judged judgedBytes judgeVerdict judgeAnswer
     readRelation roomVerdict examined firstOf makerVerdict verdictBy mayKeep endlessAt firstChain endless

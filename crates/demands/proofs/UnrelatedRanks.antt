@@ -21,7 +21,7 @@ use Rattle.answers.specs.Verdicts.{Verdict, _andThen_, answerOf}
 use Rattle.answers.proofs.VerdictLaws.{then-cong, along-cong}
 use Rattle.table_reader.specs.declared.TableRead.{TableRead}
 use Rattle.table_reader.specs.declared.TableRead.the-variants as table
-use Rattle.certificates.specs.Layout.{sizesOf, certificateLength, rowsAt, alAt, rowsPart}
+use Rattle.certificates.specs.Layout.{sizesOf, certificateLength, certificateHeaderLength, alAt, rowsPart}
 use Rattle.certificate_reader.specs.CertificateReading.{certificateSizesFit, readHeader, readRows, withRows, readCertificate}
 use Rattle.certificates.specs.CertificateModel.{viewOf, ranksOf, certifiedView as view, certifiedRanks as ranks}
 use Rattle.certificates.specs.declared.Sizes.{Sizes}
@@ -123,13 +123,13 @@ module _ (left right c c′ : List ℕ) (d : SameWhereRelated left right c c′)
 
   -- where the length is right, the rows are the same
   rows-same : length c ≡ certificateLength z → rowsPart c z ≡ rowsPart c′ z
-  unfolding rowsAt alAt
+  unfolding alAt
   rows-same e =
       let a = rows-length z c e in
       let b = rows-length z c′ (sym (d .long) ∙ e) in
       ext-getD 0 (rowsPart c z) (rowsPart c′ z) (a ∙ sym b)
       (λ i l. let k : i < 8 * z .n1 = rw a at l in
-      rows-byte z c i k ∙ d .head (rowsAt z + i) (omega arith) ∙ sym (rows-byte z c′ i k))
+      rows-byte z c i k ∙ d .head (certificateHeaderLength + i) (omega arith) ∙ sym (rows-byte z c′ i k))
 
   -- a good header has the sizes and the length
   good-header : {y : Sizes} → readHeader z c ≡ certificate.Good y → (y ≡ z) × (length c ≡ certificateLength z)

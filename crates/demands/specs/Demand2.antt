@@ -14,7 +14,7 @@ use Rattle.tables.specs.Table.{statesOf}
 use Rattle.answers.specs.Causes.{NoCause}
 use Rattle.table_reader.specs.TableCauses.{WellFormedTable}
 use Rattle.answers.specs.declared.Answer.{Answer}
-use Rattle.certificates.specs.Layout.{sizesOf, rowsAt, alAt, arAt, clAt, crAt}
+use Rattle.certificates.specs.Layout.{sizesOf, certificateHeaderLength, alAt, arAt, clAt, crAt}
 use Rattle.certificates.specs.CertificateModel.{AreBytes, certifiedView as view, certifiedRanks as ranks}
 use Rattle.certificate_reader.specs.CertificateCauses.{certificateCauses, relationCauses}
 use Rattle.demands.specs.Demand1.{Accepted}
@@ -48,7 +48,7 @@ pub record JudgeExact (left right c : List ℕ) (answer : Answer) : Type 0 where
 
 -- The file has the relation's rows, whatever its other bytes.
 abbrev pub HasRows : (left right relation c : List ℕ) → Type 0
-HasRows left right relation c = (i : ℕ) → i < 8 * statesOf left → byteAt c (rowsAt (sizesOf left right) + i) ≡ byteAt relation i
+HasRows left right relation c = (i : ℕ) → i < 8 * statesOf left → byteAt c (certificateHeaderLength + i) ≡ byteAt relation i
 
 -- The two tables and the relation are well formed.
 pub record WellFormedInputs (left right relation : List ℕ) : Type 0 where

@@ -17,7 +17,7 @@ use Rattle.table_reader.specs.TableCauses.{MagicFits}
 use Rattle.answers.proofs.CauseLaws.{none-below}
 use Rattle.certificates.specs.declared.Sizes.{Sizes}
 use Rattle.certificate_reader.specs.declared.CertificateRead.the-variants as read
-use Rattle.certificates.specs.Layout.{certificateLength, rowsAt, alAt, arAt, clAt, crAt, rowsPart}
+use Rattle.certificates.specs.Layout.{certificateLength, certificateHeaderLength, alAt, arAt, clAt, crAt, rowsPart}
 use Rattle.certificate_reader.specs.CertificateReading.{readCertificate}
 use Rattle.certificate_reader.specs.CertificateCauses.{certificateCauses}
 use Rattle.certificate_reader.specs.CertificateCauses as conditions
@@ -93,7 +93,6 @@ module _ (z : Sizes) (rows : List ℕ) (r : Ranks) (full : length rows ≡ 8 * z
   to-cl = to-ar ++ grid (z .m1) (z .n2) (r .match)
 
   rows-end : length to-rows ≡ alAt z
-  unfolding rowsAt
   rows-end = length-append (certificateHeader z) rows ∙ rw (header-length z, full) (runs-follow z .rows-end)
 
   al-end : length to-al ≡ arAt z
@@ -112,8 +111,8 @@ module _ (z : Sizes) (rows : List ℕ) (r : Ranks) (full : length rows ≡ 8 * z
 
   -- ---- each byte of the rows and each rank stands at its place
 
-  rows-cell : (i : ℕ) → i < 8 * z .n1 → byteAt (certificateFile z rows r) (rowsAt z + i) ≡ byteAt rows i
-  unfolding certificateFile rowsAt
+  rows-cell : (i : ℕ) → i < 8 * z .n1 → byteAt (certificateFile z rows r) (certificateHeaderLength + i) ≡ byteAt rows i
+  unfolding certificateFile
   rows-cell i h =
       let f = runs-follow z in
       let l : 11 + i < alAt z = omega arith in
@@ -161,12 +160,12 @@ module _ (z : Sizes) (rows : List ℕ) (r : Ranks) (full : length rows ≡ 8 * z
 
     -- its rows are the rows
     pub rows-in-file : rowsPart c z ≡ rows
-    unfolding rowsPart rowsAt alAt
+    unfolding rowsPart alAt
     rows-in-file =
         let f = runs-follow z in
-        let k : length (rowsPart c z) ≡ 8 * z .n1 = part-length c (rowsAt z) (8 * z .n1) (omega (arith, file-fits)) in
+        let k : length (rowsPart c z) ≡ 8 * z .n1 = part-length c certificateHeaderLength (8 * z .n1) (omega (arith, file-fits)) in
         ext-getD 0 (rowsPart c z) rows (k ∙ sym full)
-        (λ i h. let b : i < 8 * z .n1 = rw k at h in rows-byte z c i b ∙ file-byte (rowsAt z + i) (omega arith) ∙ rows-cell i b)
+        (λ i h. let b : i < 8 * z .n1 = rw k at h in rows-byte z c i b ∙ file-byte (certificateHeaderLength + i) (omega arith) ∙ rows-cell i b)
 
     -- its ranks inside the runs are the ranks
     pub ranks-in-file : RanksAgree z (ranksOf z c) r

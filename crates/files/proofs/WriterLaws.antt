@@ -12,7 +12,8 @@ use Rattle.lists.specs.Lists.{putFront}
 use Rattle.lists.proofs.FillLaws.{Front, front-part, put-front-fits, put-front-short}
 use Rattle.bisimulation.specs.Systems.{Ranks}
 use Rattle.certificates.specs.declared.Sizes.{Sizes}
-use Rattle.certificates.specs.Layout.{certificateLength, rowsAt, alAt, arAt, clAt, crAt}
+use Rattle.certificates.specs.declared.Runs.{Runs}
+use Rattle.certificates.specs.Layout.{certificateLength, certificateHeaderLength, alAt, arAt, clAt, crAt, runsOf}
 use Rattle.certificates.proofs.LayoutLaws.{runs-follow}
 use Rattle.files.specs.File.{certificateFile, certificateIn}
 use Rattle.files.specs.Writer.{fileWritten}
@@ -47,20 +48,22 @@ front-put {p} {d} {l} {a} w = w .eq ∙ ap (λ (k : ℕ). p ++ drop k d) (sym (w
 -- ---- the parts of a certificate
 
 -- The header, the rows and the four runs, each where the one before ends.
-pub record Spans (z : Sizes) (d : List ℕ) (rows al ar cl cr end : ℕ) : Type 0 where
-  pub header : Span 0 rows 11 d
-  pub rows-run : Span rows al (8 * z .n1) d
-  pub al-run : Span al ar (z .n1 * z .n2) d
-  pub ar-run : Span ar cl (z .n2 * z .n1) d
-  pub cl-run : Span cl cr (z .m1 * z .n2) d
-  pub cr-run : Span cr end (z .m2 * z .n1) d
+pub record Spans (z : Sizes) (d : List ℕ) (r : Runs) (end : ℕ) : Type 0 where
+  pub header : Span 0 certificateHeaderLength certificateHeaderLength d
+  pub rows-run : Span certificateHeaderLength (r .al) (8 * z .n1) d
+  pub al-run : Span (r .al) (r .ar) (z .n1 * z .n2) d
+  pub ar-run : Span (r .ar) (r .cl) (z .n2 * z .n1) d
+  pub cl-run : Span (r .cl) (r .cr) (z .m1 * z .n2) d
+  pub cr-run : Span (r .cr) end (z .m2 * z .n1) d
 
 -- they follow each other in an output that has room
-pub spans : (z : Sizes) (d : List ℕ) {rows al ar cl cr end : ℕ} → rows ≡ rowsAt z → al ≡ alAt z → ar ≡ arAt z → cl ≡ clAt z → cr ≡ crAt z
-    → end ≡ certificateLength z → certificateLength z ≤ length d → Spans z d rows al ar cl cr end
-unfolding rowsAt
-spans z d p0 p1 p2 p3 p4 p5 room =
+pub spans : (z : Sizes) (d : List ℕ) {r : Runs} {end : ℕ} → r ≡ runsOf z → end ≡ certificateLength z → certificateLength z ≤ length d → Spans z d r end
+spans z d {r} {end} p q room =
     let f = runs-follow z in
+    let a : r .al ≡ alAt z = ap (λ (x : Runs). x .al) p in
+    let b : r .ar ≡ arAt z = ap (λ (x : Runs). x .ar) p in
+    let c : r .cl ≡ clAt z = ap (λ (x : Runs). x .cl) p in
+    let e : r .cr ≡ crAt z = ap (λ (x : Runs). x .cr) p in
     record {
       header = record { follows = omega arith; inside = omega arith };
       rows-run = record { follows = omega arith; inside = omega arith };

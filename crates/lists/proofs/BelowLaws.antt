@@ -195,12 +195,7 @@ unfolding countBelow sumBelow
 count-bound zero f = zero-le
 count-bound (suc n) f = omega (arith, one (f 0), count-bound n (λ i. f (suc i)))
 
--- a weaker test counts at least as many
-pub count-le : (n : ℕ) (f g : ℕ → Bool) → ((i : ℕ) → i < n → T (f i) → T (g i)) → countBelow n f ≤ countBelow n g
-unfolding countBelow
-count-le n f g h = sum-le n _ _ (λ i l. one-le (f i) (g i) (h i l))
-
--- and more where it passes an index that the other does not
+-- a weaker test counts more where it passes an index that the other does not
 pub count-lt : (n : ℕ) (f g : ℕ → Bool) (x : ℕ) → x < n → (T (f x) → ⊥) → T (g x) → ((i : ℕ) → i < n → T (f i) → T (g i)) → countBelow n f < countBelow n g
 unfolding countBelow
 count-lt n f g x l p q h = sum-lt n _ _ x l (one-lt (f x) (g x) p q) (λ i k. one-le (f i) (g i) (h i k))
@@ -237,10 +232,6 @@ sum-more n f = rw add-one (go n f)
     go zero f = omega arith
     go (suc n) f = ap (λ (k : ℕ). f 0 + k) (go n (λ i. f (suc i))) ∙ omega arith
 
-pub count-more : (n : ℕ) (f : ℕ → Bool) → countBelow (n + 1) f ≡ countBelow n f + cond (f n) 1 0
-unfolding countBelow
-count-more n f = sum-more n _
-
 pub most-more : (n : ℕ) (f : ℕ → ℕ) → mostBelow (n + 1) f ≡ max (mostBelow n f) (f n)
 unfolding mostBelow
 most-more n f = rw add-one (go n f)
@@ -270,9 +261,3 @@ first-hit f i n e l q = first-is n f i l (true-T (f i) q) (none-below f i e)
 pub any-start : (f : ℕ → Bool) → anyBelow 0 f ≡ false
 unfolding anyBelow
 any-start f = refl
-
-pub any-miss : (f : ℕ → Bool) (i : ℕ) → anyBelow i f ≡ false → f i ≡ false → anyBelow (i + 1) f ≡ false
-any-miss f i e q = any-more i f ∙ ap₂ _||_ e q
-
-pub any-hit : (f : ℕ → Bool) (i n : ℕ) → i < n → f i ≡ true → anyBelow n f ≡ true
-any-hit f i n l q = T-true (anyBelow n f) (any-i n f i l (true-T (f i) q))

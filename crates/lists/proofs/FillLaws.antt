@@ -1,5 +1,5 @@
--- Laws of lists filled by index, and of loops that fill a list: by index (`Filled`), part after part (`Front`), row after row (`Rows`) and
--- column after column (`Column`, `Columns`). Each loop has a law for its start, for one turn and for its end. Assumes nothing.
+-- Laws of lists filled by index, and of loops that fill a list: by index (`Filled`), part after part (`Front`) and row after row (`Rows`). Each loop has a
+-- law for its start, for one turn and for its end. Assumes nothing.
 use mathlib.Core.Path.{_≡_, refl, sym, ap, _∙_, subst}
 use mathlib.Core.List.{List, [], _∷_, _++_, append-assoc, append-nil}
 use mathlib.Core.Logic.{⊎-elim}
@@ -8,7 +8,7 @@ use native.Mathlib.Nat.{not-suc-le-zero, le-of-suc-le-suc, eq-or-lt-of-le, mul-l
 use native.Mathlib.Numerals.{add-one}
 use native.Mathlib.Omega.{arith}
 use native.Mathlib.Decide.{ℕ-discrete}
-use lib.Arith.{digits-div, digits-mod, digits-lt}
+use lib.Arith.{digits-lt}
 use lib.ListN.{length, take, drop, getD, set, length-append, length-drop, length-set, drop-of-length-le, List·getD-append, List·getD-eq-default}
 use lib.Seq.{
   getD-set-same,
@@ -26,7 +26,6 @@ use lib.Seq.{
   getD-take,
   getD-drop,
 }
-use borrow.Author.Count.{below-more}
 use borrow.Author.Tests.{le-leb, lt-leb}
 use borrow.Rule.Slice.PartMut.{putMid, midOf, post-is, mid-len}
 use Rattle.lists.specs.Lists.{tabulate, grid, part, putFront}
@@ -191,23 +190,7 @@ rows-all {s} {a} {m} {f} {d} {l} n w e k =
     let q : a ≡ n * m = w .at ∙ ap (λ (x : ℕ). x * m) e in
     front-all (w .rows) (omega arith) ∙ ap (λ (x : ℕ). grid x m f) e
 
--- n rows of m are lent at a, and come back filled
-pub front-run : {p d l ys : List ℕ} {a : ℕ} (n m : ℕ) (f : ℕ → ℕ → ℕ) → Front p d l a → a + n * m ≤ length d → ys ≡ grid n m f
-    → Front (p ++ grid n m f) d (putMid a (a + n * m - a) l ys) (a + n * m)
-front-run {p} {d} {l} {ys} {a} n m f w h q = front-part (a + n * m) (grid n m f) w (omega arith) (omega arith) q (length-grid n m f ∙ omega arith)
-
--- the part that is lent has as many elements as the rows
-pub run-length : {p d l : List ℕ} {a : ℕ} (n m : ℕ) → Front p d l a → a + n * m ≤ length d → length (midOf a (a + n * m - a) l) ≡ n * m
-run-length {p} {d} {l} {a} n m w h = mid-len a (a + n * m) l (omega arith) ∙ omega arith
-
 -- ---- the cells of rows of m: cell s, t stands at s * m + t
-
-module _ (m s t r x : ℕ) (h : t < m) (k : x < m) (e : s * m + t ≡ r * m + x) where
-  pub cell-row : s ≡ r
-  cell-row = sym (digits-div s h) ∙ ap (λ (i : ℕ). i / m) e ∙ digits-div r k
-
-  pub cell-column : t ≡ x
-  cell-column = sym (digits-mod s h) ∙ ap (λ (i : ℕ). i % m) e ∙ digits-mod r k
 
 pub getD-grid : (n m : ℕ) (f : ℕ → ℕ → ℕ) (s t : ℕ) → s < n → t < m → getD (grid n m f) (s * m + t) 0 ≡ f s t
 unfolding grid
@@ -229,44 +212,6 @@ grid-cells n m f l p e h =
     let r : i % m < m = mod-lt i p in
     let z : i / m * m + i % m ≡ i = div-add-mod' i m in
     subst (λ (j : ℕ). getD l j 0 ≡ getD (grid n m f) j 0) z (h (i / m) (i % m) q r ∙ sym (getD-grid n m f (i / m) (i % m) q r)))
-
--- ---- a loop that stores g s at row s of column t, in rows of m: after n rows d is l
-
-pub record Column (n m t : ℕ) (g : ℕ → ℕ) (d l : List ℕ) : Type 0 where
-  pub here : (s : ℕ) → s < n → getD l (s * m + t) 0 ≡ g s
-  pub other : (s x : ℕ) → x < m → (x ≡ t → ⊥) → getD l (s * m + x) 0 ≡ getD d (s * m + x) 0
-
-pub column-none : (m t : ℕ) (g : ℕ → ℕ) (d : List ℕ) → Column 0 m t g d d
-column-none m t g d = record { here = λ s h. absurd (not-suc-le-zero h); other = λ s x h k. refl }
-
-pub column-more : {s m t v : ℕ} {g : ℕ → ℕ} {d l : List ℕ} → Column s m t g d l → t < m → s * m + t < length l → v ≡ g s
-    → Column (s + 1) m t g d (set l (s * m + t) v)
-column-more {s} {m} {t} {v} {g} {d} {l} w h b e =
-    record {
-      here = below-more (λ (r : ℕ). getD (set l (s * m + t) v) (r * m + t) 0 ≡ g r) s
-          (λ r k. getD-set-other l (s * m + t) (r * m + t) v 0 (λ q. let z : r ≡ s = cell-row m r t s t h h q in omega arith) ∙ w .here r k)
-          (getD-set-same l (s * m + t) v 0 b ∙ e);
-      other = λ r x k n. getD-set-other l (s * m + t) (r * m + x) v 0 (λ q. n (cell-column m r x s t k h q)) ∙ w .other r x k n;
-    }
-
--- the columns below t of n rows of m are done
-pub record Columns (n m t : ℕ) (f : ℕ → ℕ → ℕ) (l : List ℕ) : Type 0 where
-  pub done : (s x : ℕ) → s < n → x < t → getD l (s * m + x) 0 ≡ f s x
-
-pub columns-none : (n m : ℕ) (f : ℕ → ℕ → ℕ) (l : List ℕ) → Columns n m 0 f l
-columns-none n m f l = record { done = λ s x h k. absurd (not-suc-le-zero k) }
-
-pub columns-more : {n m t : ℕ} {f : ℕ → ℕ → ℕ} {g : ℕ → ℕ} {d l : List ℕ} → Columns n m t f d → Column n m t g d l → t < m → ((s : ℕ) → s < n → g s ≡ f s t)
-    → Columns n m (t + 1) f l
-columns-more {n} {m} {t} {f} {g} {d} {l} w c h e =
-    record {
-      done = λ s x p q.
-          below-more (λ (y : ℕ). getD l (s * m + y) 0 ≡ f s y) t
-          (λ y k. c .other s y (omega arith) (λ z. omega arith) ∙ w .done s y p k) (c .here s p ∙ e s p) x q;
-    }
-
-pub columns-all : {n m t : ℕ} {f : ℕ → ℕ → ℕ} {l : List ℕ} → Columns n m t f l → t ≡ m → 0 < m → length l ≡ n * m → l ≡ grid n m f
-columns-all {n} {m} {t} {f} {l} w e p h = grid-cells n m f l p h (λ s x a b. w .done s x a (rw e b))
 
 -- ---- parts
 

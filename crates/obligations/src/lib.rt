@@ -73,9 +73,10 @@ impl Run {
     {
         // Read as a number, which tells that the sizes are small, and so that both places fit.
         let states = sizes.n2 as usize;
+        let runs = sizes.runs();
         Run {
-            stutter: sizes.al_at() as u32,
-            matches: sizes.cl_at() as u32,
+            stutter: runs.al as u32,
+            matches: runs.cl as u32,
             states: states as u8,
         }
     }
@@ -86,9 +87,10 @@ impl Run {
     {
         // Read as a number, which tells that the sizes are small, and so that both places fit.
         let states = sizes.n1 as usize;
+        let runs = sizes.runs();
         Run {
-            stutter: sizes.ar_at() as u32,
-            matches: sizes.cr_at() as u32,
+            stutter: runs.ar as u32,
+            matches: runs.cr as u32,
             states: states as u8,
         }
     }

@@ -14,7 +14,7 @@ use Rattle.bisimulation.specs.Maker.{stutterRank, matchRank}
 use Rattle.sides.specs.Side.{relatedTo}
 use Rattle.sides.specs.Views.{viewIn}
 use Rattle.lengths.specs.Cells.{distanceAt, chainAt}
-use Rattle.rank_grids.specs.RankGrids.{stutterRow, stutterBy, matchBy}
+use Rattle.rank_grids.specs.RankGrids.{stutterWhere, stutterBy, matchBy}
 use Rattle.lengths.proofs.DistanceLaws.{match-rank-distance}
 use Rattle.sides.proofs.ViewLaws.{steps-few}
 use Rattle.lengths.proofs.LengthTableLaws.{table-distance, table-chain}
@@ -26,7 +26,7 @@ module _ (ours theirs : List ℕ) where
   -- the A ranks by the true chain lengths
   pub stutter-by-chains : {chains : List ℕ} → chains ≡ grid 64 64 (chainAt v) → (s t : ℕ) → s < 64 → t < 64
       → byteAt (grid 64 64 (stutterBy ours chains)) (s * 64 + t) ≡ stutterRank v s t
-  unfolding stutterRow stutterRank
+  unfolding stutterWhere stutterRank
   stutter-by-chains {chains} are s t h l =
       getD-grid 64 64 (stutterBy ours chains) s t h l
       ∙ ap (λ (d : ℕ). cond (hasBit (relatedTo ours s) t) d 0) (ap (λ (x : List ℕ). byteAt x (t * 64 + s)) are ∙ table-chain v t s l h)

@@ -10,12 +10,12 @@ use Rattle.tables.specs.Table.{maxStates, maxSteps}
 use Rattle.sides.specs.Side.{systemIn, relatedTo}
 
 -- The A rank of s at t, by the word of the states related to s: the chain length where t is one of them, else 0.
-unfoldable pub stutterRow : (word : ℕ) (chains : List ℕ) → ℕ → ℕ → ℕ
-stutterRow word chains s t = cond (hasBit word t) (byteAt chains (t * 64 + s)) 0
+unfoldable pub stutterWhere : (word : ℕ) (chains : List ℕ) → ℕ → ℕ → ℕ
+stutterWhere word chains s t = cond (hasBit word t) (byteAt chains (t * 64 + s)) 0
 
 -- The same by the side that has s.
 abbrev pub stutterBy : (side chains : List ℕ) → ℕ → ℕ → ℕ
-stutterBy side chains s t = stutterRow (relatedTo side s) chains s t
+stutterBy side chains s t = stutterWhere (relatedTo side s) chains s t
 
 -- The C rank of step j at t, where the other side has n states: the distance where the step is matched, else 0.
 unfoldable pub matchBy : ℕ → (distances : List ℕ) → ℕ → ℕ → ℕ

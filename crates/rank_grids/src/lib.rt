@@ -9,12 +9,12 @@ ghost use mathlib.Core.Path.{_≡_};
 ghost use Prim.Native.Nat.{_≤_, _<_};
 ghost use lib.ListN.{length};
 ghost use Rattle.lists.specs.Lists.{tabulate};
-ghost use Rattle.rank_grids.specs.RankGrids.{stutterRow, matchBy, stutterGrid, matchGrid};
+ghost use Rattle.rank_grids.specs.RankGrids.{stutterWhere, matchBy, stutterGrid, matchGrid};
 
 // The stutter rank of s and t, where `states` are those related to s.
 fn stutter_rank(states: Row, chains: &[u8], s: usize, t: usize) -> u8
     requires { ⌜ (s < 64) × (t < 64) ⌝ }
-    ensures { λ r. ⌜ r ≡ stutterRow (states .0) (now (chains .entry)) s t ⌝ }
+    ensures { λ r. ⌜ r ≡ stutterWhere (states .0) (now (chains .entry)) s t ⌝ }
 {
     if states.has(t) {
         byte(chains, t * Head::MAX_STATES + s) as u8
@@ -26,7 +26,7 @@ fn stutter_rank(states: Row, chains: &[u8], s: usize, t: usize) -> u8
 // The stutter ranks of s, one for each state of the other side.
 fn put_stutter_ranks(states: Row, chains: &[u8], s: usize, row: &mut [u8])
     requires { ⌜ (s < 64) × (length (now row) ≤ 64) ⌝ }
-    ensures { λ _. ⌜ now (row .exit) ≡ tabulate (length (now (row .entry))) (stutterRow (states .0) (now (chains .entry)) s) ⌝ }
+    ensures { λ _. ⌜ now (row .exit) ≡ tabulate (length (now (row .entry))) (stutterWhere (states .0) (now (chains .entry)) s) ⌝ }
 {
     let mut t: usize = 0;
     while t < row.len() {

@@ -118,12 +118,13 @@ fn show_relation(relation: &[u8], sizes: Sizes) {
 
 // The offsets of the rows and of the four runs, and the length.
 fn show_layout(sizes: Sizes) {
+    let runs = sizes.runs();
     print_answer(Answer {
-        code: sizes.rows_at(),
-        file: sizes.al_at(),
-        a: sizes.ar_at(),
-        b: sizes.cl_at(),
-        c: sizes.cr_at(),
+        code: Sizes::HEADER,
+        file: runs.al,
+        a: runs.ar,
+        b: runs.cl,
+        c: runs.cr,
         d: sizes.length(),
     });
 }

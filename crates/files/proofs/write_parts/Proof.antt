@@ -7,7 +7,9 @@ use borrow.Rule.Slice.PartMut.{putMid}
 use borrow.Author.Needs.{needs}
 use Rattle.lists.specs.Lists.{grid}
 use Rattle.lists.proofs.FillLaws.{Front, front-none, length-grid}
+use Rattle.certificates.specs.declared.Runs.{Runs}
 use Rattle.certificates.specs.declared.Sizes.{Sizes}
+use Rattle.certificates.specs.Layout.{certificateHeaderLength}
 use Rattle.files.specs.File.{certificateHeader, certificateFile}
 use Rattle.files.specs.Writer.{cellIn}
 use Rattle.files.proofs.FileLaws.{FitsHeader, header-length}
@@ -21,7 +23,7 @@ abbrev begin : tie.After-struct-known4 → tie.Start
 begin c = c .before .before .before .before .before .before .before .before .before .before
 
 abbrev start : tie.After-length → tie.Start
-start c = begin (c .before .before .before .before .before .before)
+start c = begin (c .before .before)
 
 abbrev sizes : tie.After-length → Sizes
 sizes c = start c .args .sizes
@@ -30,33 +32,34 @@ abbrev output : tie.After-length → List ℕ
 output c = start c .args .output .now
 
 abbrev rows : tie.After-length → ℕ
-rows c = c .before .before .before .before .before .rows-at .result
+rows c = certificateHeaderLength
+
+abbrev runs : tie.After-length → Runs
+runs c = c .before .runs .result
 
 abbrev al : tie.After-length → ℕ
-al c = c .before .before .before .before .al-at .result
+al c = runs c .al
 
 abbrev ar : tie.After-length → ℕ
-ar c = c .before .before .before .ar-at .result
+ar c = runs c .ar
 
 abbrev cl : tie.After-length → ℕ
-cl c = c .before .before .cl-at .result
+cl c = runs c .cl
 
 abbrev cr : tie.After-length → ℕ
-cr c = c .before .cr-at .result
+cr c = runs c .cr
 
 abbrev end : tie.After-length → ℕ
 end c = c .length .result
 
-known : (c : tie.After-length) → Spans (sizes c) (output c) (rows c) (al c) (ar c) (cl c) (cr c) (end c)
-known c =
-    spans (sizes c) (output c) (c .before .before .before .before .before .rows-at .ensures) (c .before .before .before .before .al-at .ensures)
-    (c .before .before .before .ar-at .ensures) (c .before .before .cl-at .ensures) (c .before .cr-at .ensures) (c .length .ensures) (start c .pre .1)
+known : (c : tie.After-length) → Spans (sizes c) (output c) (runs c) (end c)
+known c = spans (sizes c) (output c) (c .before .runs .ensures) (c .length .ensures) (start c .pre .1)
 
 small : (c : tie.After-struct-known4) → FitsHeader (begin c .args .sizes)
 small c = record { n1< = omega arith; n2< = omega arith; m1< = omega arith; m2< = omega arith }
 
 fits : (c : tie.After-length) → FitsHeader (sizes c)
-fits c = small (c .before .before .before .before .before .before)
+fits c = small (c .before .before)
 
 wide : {n : ℕ} → n < 256 → n < 65536
 wide h = omega arith
@@ -157,20 +160,8 @@ cast-m1 c = search needs
 cast-m2 : tie.Need-cast-m2
 cast-m2 c = search needs
 
-rows-at-requires : tie.Need-rows-at-requires
-rows-at-requires c κs = search needs
-
-al-at-requires : tie.Need-al-at-requires
-al-at-requires c κs = search needs
-
-ar-at-requires : tie.Need-ar-at-requires
-ar-at-requires c κs = search needs
-
-cl-at-requires : tie.Need-cl-at-requires
-cl-at-requires c κs = search needs
-
-cr-at-requires : tie.Need-cr-at-requires
-cr-at-requires c κs = search needs
+runs-requires : tie.Need-runs-requires
+runs-requires c κs = search needs
 
 length-requires : tie.Need-length-requires
 length-requires c κs = search needs
@@ -272,11 +263,7 @@ write-parts-spec =
     cast-n2
     cast-m1
     cast-m2
-    rows-at-requires
-    al-at-requires
-    ar-at-requires
-    cl-at-requires
-    cr-at-requires
+    runs-requires
     length-requires
     sub-put-header
     part-put-header-start

@@ -3,13 +3,13 @@ use Prim.Native.Nat.{_-_}
 use native.Mathlib.Omega.{arith}
 use lib.ListN.{length}
 use Rattle.lists.proofs.FillLaws.{Filled, filled-none, filled-more, filled-all}
-use Rattle.rank_grids.specs.RankGrids.{stutterRow}
+use Rattle.rank_grids.specs.RankGrids.{stutterWhere}
 use borrow.Author.Needs.{needs}
 use Rattle.rank_grids.proofs.put_stutter_ranks.Statement.{statement}
 use Rattle.rank_grids.proofs.put_stutter_ranks.Tie as tie
 
 abbrev Inv-loop : tie.InvT-loop
-Inv-loop states chains s row₀ t₀ row t = Filled t (stutterRow (states .0) chains s) row₀ row
+Inv-loop states chains s row₀ t₀ row t = Filled t (stutterWhere (states .0) chains s) row₀ row
 
 abbrev μ-loop : tie.MeasureT-loop
 μ-loop states chains s row₀ t₀ row t = length row₀ - t
