@@ -1,5 +1,5 @@
-// One obligation on two sides: each of the sets that its outcome is told by is one read, and so are its ranks in a certificate; and the test of the
-// starts. Both know no table.
+// One obligation on two sides: each set of states that its outcome is told from is one read, and so are its ranks in a certificate. Then the test of the
+// starts. Neither knows a table.
 use answers::Answer;
 use certificates::Sizes;
 use lists::byte;

@@ -1,5 +1,5 @@
-// The outcome of one obligation, document 01's duty: an own step from s to u, at a state t of the other side that is related to s. It is told on words,
-// so it costs a few instructions, and by whoever hands over the sets of states: nothing here knows which side is which, or how steps are told apart.
+// The outcome of one obligation, document 01's duty: an own step from s to u, at a state t of the other side that is related to s. It is told from words,
+// so it costs a few instructions. The caller hands over the sets of states: nothing here knows which side is which, or how steps are told apart.
 use lists::byte;
 use tables::Head;
 use words::Row;
@@ -32,7 +32,7 @@ pub struct Facing {
     // The states of the other side that are related to s, and to u.
     pub from: Row,
     pub to: Row,
-    // The states that steps from t enter: steps that answer this one, and silent steps.
+    // The states that steps from t enter: steps that serve this one in 2a, and silent steps.
     pub serving: Row,
     pub silent: Row,
     // Whether the step is silent.
