@@ -7,8 +7,8 @@
 # rt waits for the slowest of the crates or edits that it has started together; four at a time leave two cores the least idle.
 export RT_JOBS ?= 4
 
-# Each check copies what it stands on, thousands of files, to the folder for temporary files and removes them again. On a disk that is a fifth of the gate's
-# time, so the folder is one in memory where there is one with room for it, and from which programs may be run.
+# Each check copies what it stands on, thousands of files, to the folder for temporary files and removes them again, which on a disk takes up to two seconds.
+# So the folder is one in memory where there is one with room for it, and from which programs may be run.
 MEMORY := $(shell [ -w /dev/shm ] && [ "$$(df -P /dev/shm | awk 'END { print $$4 }')" -gt 4000000 ] \
 	&& ! grep -q ' /dev/shm .*noexec' /proc/mounts && echo /dev/shm)
 ifneq ($(MEMORY),)

@@ -51,8 +51,8 @@ impl TableRefusal {
                 a = j;
                 8
             }
-            TableRefusal::Doubled(j) => {
-                a = j;
+            TableRefusal::Doubled(again) => {
+                a = again;
                 9
             }
         };
