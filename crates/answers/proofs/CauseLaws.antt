@@ -72,6 +72,10 @@ module _ (f : ℕ → ℕ → Bool) where
   pub numbered-below : (n : ℕ) (causes : ℕ → List Cause) → ((i : ℕ) → Numbered f (causes i)) → Numbered f (joinBelow n causes)
   numbered-below n causes h = all-join (λ c. T (f (c .numbers .code) (c .numbers .file))) n causes (λ i l. h i)
 
+  pub numbered-only : (P : Type 0) (cs : List Cause) → Numbered f cs → Numbered f (only P cs)
+  numbered-only P [] h = tt
+  numbered-only P (c ∷ cs) h = (h .0, numbered-only P cs (h .1))
+
   pub numbered-flat : {A : Type 0} (causes : A → List Cause) → ((x : A) → Numbered f (causes x)) → (xs : List A) → Numbered f (flatMap causes xs)
   numbered-flat causes h xs = all-flat (λ c. T (f (c .numbers .code) (c .numbers .file))) causes xs (all-each (λ x. Numbered f (causes x)) h xs)
 

@@ -175,15 +175,18 @@ module _ {A : Type 0} {Good : A → Type 0} where
       go false e m = later (on (cond (ltb (suc k) (suc n)) (y (suc k)) z)) (e .complete) m
 
   -- a test between two chains, whose causes it guards
-  pub decided-either : {P : Type 0} {xs ys : List Cause} (test : Bool) (x y : Verdict A) → Decides test P → Decided Good xs x → Decided Good ys y
-      → Decided Good (only P xs ++ only (¬ P) ys) (cond test x y)
-  decided-either {P} {xs} {ys} true (goOn x) y d e f =
-      record { by = (e .by .0, none-append (only P xs) _ (only-none P xs (e .by .1)) (only-out (¬ P) ys (λ n. n (d .sound tt)))) }
-  decided-either {P} {xs} {ys} true (refusedWith a) y d e f = record { by = first-left (only P xs) _ a (only-first P xs a (d .sound tt) (e .by)) }
-  decided-either {P} {xs} {ys} false x (goOn y) d e f =
-      record { by = (f .by .0, none-append (only P xs) _ (only-out P xs (d .complete)) (only-none (¬ P) ys (f .by .1))) }
-  decided-either {P} {xs} {ys} false x (refusedWith a) d e f =
-      record { by = first-right (only P xs) _ a (only-out P xs (d .complete)) (only-first (¬ P) ys a (d .complete) (f .by)) }
+  pub decided-either : {Y : Type 0} (on : Y → Verdict A) {P : Type 0} {xs ys : List Cause} (test : Bool) (y z : Y) → Decides test P
+      → Decided Good xs (on y) → Decided Good ys (on z) → Decided Good (only P xs ++ only (¬ P) ys) (on (cond test y z))
+  decided-either on {P} {xs} {ys} true y z d e f = first (on y) e
+    where
+      first : (v : Verdict A) → Decided Good xs v → Decided Good (only P xs ++ only (¬ P) ys) v
+      first (goOn x) e = record { by = (e .by .0, none-append (only P xs) _ (only-none P xs (e .by .1)) (only-out (¬ P) ys (λ n. n (d .sound tt)))) }
+      first (refusedWith a) e = record { by = first-left (only P xs) _ a (only-first P xs a (d .sound tt) (e .by)) }
+  decided-either on {P} {xs} {ys} false y z d e f = second (on z) f
+    where
+      second : (v : Verdict A) → Decided Good ys v → Decided Good (only P xs ++ only (¬ P) ys) v
+      second (goOn x) f = record { by = (f .by .0, none-append (only P xs) _ (only-out P xs (d .complete)) (only-none (¬ P) ys (f .by .1))) }
+      second (refusedWith a) f = record { by = first-right (only P xs) _ a (only-out P xs (d .complete)) (only-first (¬ P) ys a (d .complete) (f .by)) }
 
   -- where no cause applies, it goes on with something good
   pub none-on : {causes : List Cause} (v : Verdict A) → Decided Good causes v → NoCause causes → (x : A) × (v ≡ goOn x) × Good x

@@ -1,4 +1,4 @@
--- The judge's answer for any three byte strings (document 01, The answer): 1 to 9 of the left table and of the right, 10 to 15, then 16, then
+-- The judge's answer for any three byte strings (document 01, The answer): those of the left table and of the right, 10 to 15, then 16, then
 -- labels and obligations in judging order; the first cause that applies, or the counts.
 use Prim.Native.Nat.{ℕ}
 use mathlib.Core.Path.{_≡_}

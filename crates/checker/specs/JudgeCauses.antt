@@ -1,4 +1,5 @@
--- The causes that turn a certificate away from the judge, in document 01's order: left table, right table (1 to 9), 10 to 15, then 16 to 19 in judging order.
+-- The causes that turn a certificate away from the judge, in document 01's order: left table, right table (1 to 9, or 24 in place of 9), 10 to 15, then
+-- 16 to 19 in judging order.
 use Prim.Native.Nat.{ℕ}
 use mathlib.Core.Bool.{Bool, _&&_, _||_}
 use mathlib.Core.List.{List, _++_, flatMap}
@@ -20,6 +21,6 @@ judgeCauses left right c =
     ++ (startsCauses (certifiedView left right c) (startOf left) (startOf right)
     ++ flatMap (checkCauses (certifiedView left right c) (certifiedRanks left right c)) (checks (certifiedView left right c)))))
 
--- Their numbers and files: 1 to 9 with the file 0 or 1, and 10 to 19 with the file 2.
+-- Their numbers and files: 1 to 9 and 24 with the file 0 or 1, and 10 to 19 with the file 2.
 abbrev pub judgeNumber : (code file : ℕ) → Bool
-judgeNumber code file = ((leb 1 code && leb code 9) && leb file 1) || ((leb 10 code && leb code 19) && eqb file 2)
+judgeNumber code file = (((leb 1 code && leb code 9) || eqb code 24) && leb file 1) || ((leb 10 code && leb code 19) && eqb file 2)

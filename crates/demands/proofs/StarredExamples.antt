@@ -33,7 +33,7 @@ use Rattle.tables.specs.Table.{
   fromOf,
   toOf,
 }
-use Rattle.table_reader.specs.TableReading.{statesFit, endsOutside, sameStep, doubled, readSizes, readHeader, readSteps, readTable}
+use Rattle.table_reader.specs.TableReading.{versionFits, statesFit, endsOutside, sameStep, doubled, readSizes, readHeader, readSteps, readTable}
 use Rattle.tables.specs.Model.{systemOf}
 use Rattle.certificates.specs.Layout.{sizesOf, certificateLength, alAt, arAt, clAt, crAt, rowsPart, rowOf}
 use Rattle.certificate_reader.specs.CertificateReading.{certificateSizesFit, wideRow, readRows, readCertificate, readRelation}
@@ -64,7 +64,7 @@ pub starred : (judgeAnswer P Q K ≡ six 0 0 3 4 1 1)
     × (makeAnswer still looping (low 1) (zeros 24) ≡ six 23 2 1 0 0 0)
 unfolding
     anyBelow allBelow firstBelow sumBelow countBelow bigEndian hasBit addBit hasFrom countBits firstBit is2a is2b is2c ahead
-    magicFits versionOf statesOf statesFit startOf stepsOf initialOf tableLength labelsAt stepsAt stepsEnd
+    magicFits versionOf versionFits statesOf statesFit startOf stepsOf initialOf tableLength labelsAt stepsAt stepsEnd
     labelsPart stepsPart labelOf fromOf toOf endsOutside sameStep doubled readSizes readHeader readSteps readTable
     systemOf sizesOf certificateLength alAt arAt clAt crAt rowsPart rowOf certificateSizesFit wideRow
     readRows readCertificate certificates.readHeader relatedIn viewOf ranksOf outcomeOf isApart obligationAt joinBelow stepsFrom pairChecks checksBy checks
@@ -82,7 +82,7 @@ pub made-K : (length K ≡ 51)
     × (makeAnswer P Q rowsPQ (zeros 50) ≡ six 21 3 51 0 0 0)
 unfolding
     anyBelow allBelow firstBelow sumBelow countBelow bigEndian hasBit addBit hasFrom countBits firstBit is2a is2b is2c ahead
-    magicFits versionOf statesOf statesFit startOf stepsOf initialOf tableLength labelsAt stepsAt stepsEnd
+    magicFits versionOf versionFits statesOf statesFit startOf stepsOf initialOf tableLength labelsAt stepsAt stepsEnd
     labelsPart stepsPart labelOf fromOf toOf endsOutside sameStep doubled readSizes readHeader readSteps readTable
     systemOf sizesOf certificateLength alAt arAt clAt crAt rowsPart rowOf certificateSizesFit wideRow
     readRows readCertificate certificates.readHeader relatedIn viewOf ranksOf outcomeOf isApart obligationAt joinBelow stepsFrom pairChecks checksBy checks

@@ -1,4 +1,4 @@
--- The maker's answer and output for any byte strings and any output (document 01, The maker): 1 to 9 of the left table and of the right, then 20, 15, 21,
+-- The maker's answer and output for any byte strings and any output (document 01, The maker): those of the left table and of the right, then 20, 15, 21,
 -- 16, then 17 and 22 in judging order, then 23; the first cause that applies, or the length L. Where it succeeds the file stands at the front of the
 -- output and the bytes after L stay; otherwise the output is as it was.
 use Prim.Native.Nat.{ℕ}

@@ -1,5 +1,5 @@
--- The causes that turn a relation away from the maker, in document 01's order: left table, right table (1 to 9), 20, 15, 21,
--- 16, then pairs and steps in judging order for 17 and 22, then 23, left side first.
+-- The causes that turn a relation away from the maker, in document 01's order: left table, right table (1 to 9, or 24 in place of
+-- 9), 20, 15, 21, 16, then pairs and steps in judging order for 17 and 22, then 23, left side first.
 use Prim.Native.Nat.{ℕ, _<_}
 use mathlib.Core.Bool.{Bool, _&&_, _||_}
 use mathlib.Core.List.{List, [], _∷_, _++_}
@@ -26,8 +26,8 @@ makerCauses left right relation output =
     ++ (roomCauses (certificateLength (sizesOf left right)) output
     ++ examinationCauses (viewOf left right relation) (startOf left) (startOf right))))
 
--- Their numbers and files: 1 to 9 with the file 0 or 1; 15 to 17, 20, 22 and 23 with the file 2; 21 with the file 3.
+-- Their numbers and files: 1 to 9 and 24 with the file 0 or 1; 15 to 17, 20, 22 and 23 with the file 2; 21 with the file 3.
 abbrev pub makerNumber : (code file : ℕ) → Bool
 makerNumber code file =
-    ((leb 1 code && leb code 9) && leb file 1) || (((leb 15 code && leb code 17) || eqb code 20 || eqb code 22 || eqb code 23) && eqb file 2)
+    (((leb 1 code && leb code 9) || eqb code 24) && leb file 1) || (((leb 15 code && leb code 17) || eqb code 20 || eqb code 22 || eqb code 23) && eqb file 2)
     || (eqb code 21 && eqb file 3)

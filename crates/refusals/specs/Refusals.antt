@@ -1,5 +1,5 @@
--- The six numbers of each refusal of a file (document 01, What is turned away): code, file, and a the first such step for 8 and 9 or the first such row
--- for 15.
+-- The six numbers of each refusal of a file (document 01, What is turned away; document 02, Ask 1): code, file, and a the first such step for 8, 9 and 24
+-- or the first such row for 15.
 use Prim.Native.Nat.{ℕ}
 use Rattle.answers.specs.declared.Answer.{Answer}
 use Rattle.answers.specs.Numbers.{sixNumbers}
@@ -20,6 +20,7 @@ tableAnswer table.Steps file = sixNumbers 6 file 0
 tableAnswer table.Length file = sixNumbers 7 file 0
 tableAnswer (table.StepEnd j) file = sixNumbers 8 file j
 tableAnswer (table.Doubled j) file = sixNumbers 9 file j
+tableAnswer (table.NotGreater j) file = sixNumbers 24 file j
 
 abbrev pub certificateAnswer : CertificateRefusal → ℕ → Answer
 certificateAnswer certificate.Short file = sixNumbers 10 file 0

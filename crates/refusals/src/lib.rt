@@ -3,7 +3,7 @@ use answers::Answer;
 ghost use mathlib.Core.Path.{_≡_};
 ghost use Rattle.refusals.specs.Refusals.{tableAnswer, certificateAnswer, relationAnswer};
 
-// Why a table is refused; the last two carry the first such step.
+// Why a table is refused; the last three carry the first such step.
 pub enum TableRefusal {
     Short,
     Magic,
@@ -14,6 +14,7 @@ pub enum TableRefusal {
     Length,
     StepEnd(usize),
     Doubled(usize),
+    NotGreater(usize),
 }
 
 // Why a certificate is refused; the last carries the first such row.
@@ -54,6 +55,10 @@ impl TableRefusal {
             TableRefusal::Doubled(again) => {
                 a = again;
                 9
+            }
+            TableRefusal::NotGreater(later) => {
+                a = later;
+                24
             }
         };
         Answer {

@@ -7,20 +7,30 @@ use mathlib.Core.List.{List, [], _∷_, _++_}
 use native.Mathlib.Omega.{arith}
 use lib.ListN.{length}
 use Rattle.answers.specs.Numbers.{sixNumbers}
-use Rattle.answers.specs.Causes.{Cause, NoCause, Numbered, Allows}
+use Rattle.answers.specs.Causes.{Cause, only, NoCause, Numbered, Allows}
 use Rattle.answers.specs.Verdicts.{Verdict, goOn, _andThen_}
-use Rattle.answers.proofs.CauseLaws.{numbered-append, numbered-below}
+use Rattle.answers.proofs.CauseLaws.{numbered-append, numbered-below, numbered-only}
 use Rattle.answers.proofs.DecideLaws.{ltb-decides, leb-decides, eqb-decides, not-decides}
-use Rattle.answers.proofs.VerdictLaws.{Decided, decided-none, decided-end, decided-test, decided-search, decided-then, none-on, on-none}
+use Rattle.answers.proofs.VerdictLaws.{
+  Decided,
+  decided-none,
+  decided-end,
+  decided-test,
+  decided-search,
+  decided-either,
+  decided-then,
+  none-on,
+  on-none,
+}
 use Rattle.tables.specs.declared.Head.{Head}
 use Rattle.tables.specs.Table.{versionOf, statesOf, startOf, stepsOf, tableLength, stepsPart}
-use Rattle.refusals.specs.declared.TableRefusal.the-variants.{Short, Magic, Version, States, Start, Steps, Length, StepEnd, Doubled}
+use Rattle.refusals.specs.declared.TableRefusal.the-variants.{Short, Magic, Version, States, Start, Steps, Length, StepEnd, Doubled, NotGreater}
 use Rattle.table_reader.specs.declared.TableRead.{TableRead}
 use Rattle.table_reader.specs.declared.TableRead.the-variants.{Good, Refused}
 use Rattle.table_reader.specs.TableReading.{headOf, readSizes, readHeader, readSteps, withSteps, readTable}
 use Rattle.table_reader.specs.TableVerdicts.{tableVerdict}
-use Rattle.table_reader.specs.TableCauses.{headerCauses, endCauses, doubledCauses, tableCauses, WellFormedTable}
-use Rattle.table_reader.proofs.TestLaws.{magic-decides, states-decides, outside-decides, doubled-decides}
+use Rattle.table_reader.specs.TableCauses.{headerCauses, endCauses, doubledCauses, notGreaterCauses, orderCauses, tableCauses, WellFormedTable}
+use Rattle.table_reader.proofs.TestLaws.{magic-decides, version-decides, states-decides, outside-decides, doubled-decides, not-greater-decides}
 
 -- a verdict that goes on is that of a header
 on-good : (file : ℕ) (x : TableRead) {h : Head} → tableVerdict file x ≡ goOn h → x ≡ Good h
@@ -37,14 +47,17 @@ module _ (file : ℕ) (s : List ℕ) where
   table-decided =
       decided-test steps-on (Refused Short) _ (ltb-decides (length s) 9) refl
       (decided-test steps-on (Refused Magic) _ (not-decides (magic-decides 0x54 s)) refl
-      (decided-test steps-on (Refused Version) _ (not-decides (eqb-decides (versionOf s) 1)) refl
+      (decided-test steps-on (Refused Version) _ (not-decides (version-decides s)) refl
       (decided-test steps-on (Refused States) _ (not-decides (states-decides s)) refl
       (decided-test steps-on (Refused Start) _ (leb-decides (statesOf s) (startOf s)) refl
       (decided-test steps-on (Refused Steps) _ (ltb-decides 256 (stepsOf s)) refl
       (decided-test steps-on (Refused Length) _ (not-decides (eqb-decides (length s) (tableLength (statesOf s) (stepsOf s)))) refl
       (decided-search (tableVerdict file) (stepsOf s) (sixNumbers 8 file) (λ j. Refused (StepEnd j)) _ (outside-decides (stepsPart s) (statesOf s)) (λ j. refl)
+      (decided-either (tableVerdict file) {xs = doubledCauses file s} {ys = notGreaterCauses file s} _ _ _ (eqb-decides (versionOf s) 1)
       (decided-end (decided-search (tableVerdict file) (stepsOf s) (sixNumbers 9 file) (λ j. Refused (Doubled j)) _ (doubled-decides (stepsPart s)) (λ j. refl)
-      (decided-none refl))))))))))
+      (decided-none refl)))
+      (decided-end (decided-search (tableVerdict file) (stepsOf s) (sixNumbers 24 file) (λ j. Refused (NotGreater j)) _ (not-greater-decides s) (λ j. refl)
+      (decided-none refl)))))))))))
 
   -- what is read is the header, and no cause applies
   pub good-none : {h : Head} → readTable s ≡ Good h → (h ≡ headOf s) × NoCause (tableCauses file s)
@@ -66,10 +79,13 @@ pub after-table : (file : ℕ) (s : List ℕ) {B : Type 0} {Fine : B → Type 0}
     → Decided Fine (tableCauses file s ++ later) (tableVerdict file (readTable s) andThen λ h. rest)
 after-table file s d = decided-then (tableVerdict file (readTable s)) (table-decided file s) (λ h e n. d (good-formed s (none-good file s n)))
 
--- ---- the numbers are 1 to 9, with the file given
+-- ---- the numbers are 1 to 9 and 24, with the file given
 
-pub table-numbers : (f : ℕ → ℕ → Bool) (file : ℕ) → Allows f file (1 ∷ 2 ∷ 3 ∷ 4 ∷ 5 ∷ 6 ∷ 7 ∷ 8 ∷ 9 ∷ []) → (s : List ℕ) → Numbered f (tableCauses file s)
-table-numbers f file (h1, (h2, (h3, (h4, (h5, (h6, (h7, (h8, (h9, h))))))))) s =
-    numbered-append f (headerCauses file s) (endCauses file s ++ doubledCauses file s) (h1, (h2, (h3, (h4, (h5, (h6, (h7, tt)))))))
-    (numbered-append f (endCauses file s) (doubledCauses file s)
-    (numbered-below f (stepsOf s) _ (λ j. (h8, tt))) (numbered-below f (stepsOf s) _ (λ j. (h9, tt))))
+pub table-numbers : (f : ℕ → ℕ → Bool) (file : ℕ) → Allows f file (1 ∷ 2 ∷ 3 ∷ 4 ∷ 5 ∷ 6 ∷ 7 ∷ 8 ∷ 9 ∷ 24 ∷ []) → (s : List ℕ)
+    → Numbered f (tableCauses file s)
+table-numbers f file (h1, (h2, (h3, (h4, (h5, (h6, (h7, (h8, (h9, (h24, h)))))))))) s =
+    numbered-append f (headerCauses file s) (endCauses file s ++ orderCauses file s) (h1, (h2, (h3, (h4, (h5, (h6, (h7, tt)))))))
+    (numbered-append f (endCauses file s) (orderCauses file s) (numbered-below f (stepsOf s) _ (λ j. (h8, tt)))
+    (numbered-append f (only (versionOf s ≡ 1) (doubledCauses file s)) (only (¬ (versionOf s ≡ 1)) (notGreaterCauses file s))
+    (numbered-only f (versionOf s ≡ 1) (doubledCauses file s) (numbered-below f (stepsOf s) _ (λ j. (h9, tt))))
+    (numbered-only f (¬ (versionOf s ≡ 1)) (notGreaterCauses file s) (numbered-below f (stepsOf s) _ (λ j. (h24, tt))))))

@@ -19,13 +19,14 @@ use Rattle.tables.specs.declared.Head.{Head}
 use Rattle.table_reader.specs.declared.TableRead.the-variants.{Good}
 use Rattle.tables.specs.Table.{versionOf, statesOf, startOf, stepsOf, initialOf, tableLength, labelsAt, stepsAt, stepsEnd, labelsPart, stepsPart}
 use Rattle.table_reader.specs.TableReading.{readTable}
-use Rattle.table_reader.specs.TableCauses.{EndOutside, EqualsEarlier, headerCauses, endCauses, doubledCauses, tableCauses}
+use Rattle.table_reader.specs.TableCauses.{EndOutside, EqualsEarlier, headerCauses, endCauses, orderCauses, tableCauses}
 use Rattle.answers.specs.Numbers.{sixNumbers}
 use Rattle.answers.specs.Causes.{NoCause}
 use Rattle.answers.proofs.CauseLaws.{append-none, below-none, none-at}
 use Rattle.tables.specs.Model.{systemOf}
 use Rattle.answers.proofs.DecideLaws.{decides-stable, eqb-decides}
 use Rattle.table_reader.proofs.TestLaws.{states-decides}
+use Rattle.table_reader.proofs.OrderLaws.{steps-once}
 use Rattle.table_reader.proofs.TableCauseLaws.{good-none}
 
 -- ---- the header
@@ -102,14 +103,14 @@ table-formed s {h} e =
       initial-some = rw (one (startOf s)) (eqb-refl (startOf s));
     }
   where
-    steps-none : NoCause (endCauses 0 s) × NoCause (doubledCauses 0 s)
-    steps-none = append-none (endCauses 0 s) (doubledCauses 0 s) (append-none (headerCauses 0 s) (endCauses 0 s ++ doubledCauses 0 s) (good-none 0 s e .1) .1)
+    steps-none : NoCause (endCauses 0 s) × NoCause (orderCauses 0 s)
+    steps-none = append-none (endCauses 0 s) (orderCauses 0 s) (append-none (headerCauses 0 s) (endCauses 0 s ++ orderCauses 0 s) (good-none 0 s e .1) .1)
 
     inside : (j : ℕ) → j < stepsOf s → ¬ EndOutside s j
     inside = below-none (stepsOf s) (EndOutside s) (sixNumbers 8 0) (steps-none .0)
 
     once : (j : ℕ) → j < stepsOf s → ¬ EqualsEarlier s j
-    once = below-none (stepsOf s) (EqualsEarlier s) (sixNumbers 9 0) (steps-none .1)
+    once = steps-once s (steps-none .1)
 
     ok : HeadOk s h
     ok = table-ok s e

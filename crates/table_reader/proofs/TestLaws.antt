@@ -1,18 +1,33 @@
 -- Laws of the reader's tests: each passes exactly where what it tests holds. Assumes nothing.
-use Prim.Native.Nat.{ℕ, _≤_, _<_}
+use Prim.Native.Nat.{ℕ, zero, suc, _≤_, _<_}
 use mathlib.Core.Path.{_≡_}
 use mathlib.Core.Logic.{_⊎_}
 use mathlib.Core.List.{List}
-use Rattle.tables.specs.Table.{magicFits, statesOf, fromOf, toOf}
-use Rattle.table_reader.specs.TableReading.{statesFit, endsOutside, sameStep, doubled}
-use Rattle.table_reader.specs.TableCauses.{MagicFits}
-use Rattle.answers.proofs.DecideLaws.{Decides, decides-as, leb-decides, eqb-decides, and-decides, or-decides, any-decides}
+use Rattle.tables.specs.Table.{magicFits, versionOf, statesOf, stepsPart, fromOf, toOf}
+use Rattle.table_reader.specs.TableReading.{versionFits, statesFit, endsOutside, sameStep, doubled, greater, notGreater}
+use Rattle.table_reader.specs.TableCauses.{MagicFits, NotGreater}
+use Rattle.answers.proofs.DecideLaws.{
+  Decides,
+  decides-as,
+  test-decides,
+  ltb-decides,
+  leb-decides,
+  eqb-decides,
+  not-decides,
+  and-decides,
+  or-decides,
+  any-decides,
+}
 
 pub magic-decides : (third : ℕ) (s : List ℕ) → Decides (magicFits third s) (MagicFits third s)
 unfolding magicFits
 magic-decides third s =
     decides-as (and-decides (and-decides (eqb-decides _ _) (eqb-decides _ _)) (eqb-decides _ _))
     (λ p. (p .0 .0, p .0 .1, p .1)) (λ p. ((p .0, p .1), p .2))
+
+pub version-decides : (s : List ℕ) → Decides (versionFits s) ((1 ≤ versionOf s) × (versionOf s ≤ 2))
+unfolding versionFits
+version-decides s = and-decides (leb-decides _ _) (leb-decides _ _)
 
 pub states-decides : (s : List ℕ) → Decides (statesFit s) ((1 ≤ statesOf s) × (statesOf s ≤ 64))
 unfolding statesFit
@@ -31,3 +46,13 @@ module _ (steps : List ℕ) where
       → Decides (doubled steps j) ((i : ℕ) × (i < j) × (fromOf steps i ≡ fromOf steps j) × (toOf steps i ≡ toOf steps j))
   unfolding doubled
   doubled-decides j = decides-as (any-decides j (same-decides j)) (λ r. (r .0, r .1, r .2 .0, r .2 .1)) (λ r. (r .0, r .1, (r .2, r .3)))
+
+  pub greater-decides : (j i : ℕ)
+      → Decides (greater steps j i) ((fromOf steps i < fromOf steps j) ⊎ ((fromOf steps i ≡ fromOf steps j) × (toOf steps i < toOf steps j)))
+  unfolding greater
+  greater-decides j i = or-decides (ltb-decides _ _) (and-decides (eqb-decides _ _) (ltb-decides _ _))
+
+pub not-greater-decides : (s : List ℕ) (j : ℕ) → Decides (notGreater (stepsPart s) j) (NotGreater s j)
+unfolding notGreater
+not-greater-decides s zero = test-decides _
+not-greater-decides s (suc i) = not-decides (greater-decides (stepsPart s) (suc i) i)

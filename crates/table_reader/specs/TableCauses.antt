@@ -1,5 +1,6 @@
--- The causes 1 to 9, each worded as its row of document 01's table, and not through the reader. `file` is the number of the file in the answer.
-use Prim.Native.Nat.{ℕ, _≤_, _<_}
+-- The causes 1 to 9 and 24, each worded as its row of document 01's table or as Ask 1 of document 02, and not through the reader. `file` is the number of
+-- the file in the answer.
+use Prim.Native.Nat.{ℕ, zero, suc, _≤_, _<_}
 use mathlib.Core.Path.{_≡_}
 use mathlib.Core.Logic.{_⊎_}
 use mathlib.Core.List.{List, [], _∷_, _++_}
@@ -7,7 +8,7 @@ use lib.ListN.{length}
 use Rattle.lists.specs.Lists.{joinBelow}
 use Rattle.lists.specs.Numbers.{byteAt}
 use Rattle.answers.specs.Numbers.{sixNumbers}
-use Rattle.answers.specs.Causes.{Cause, _gives_, NoCause}
+use Rattle.answers.specs.Causes.{Cause, _gives_, only, NoCause}
 use Rattle.tables.specs.Table.{versionOf, statesOf, startOf, stepsOf, tableLength, stepsPart, fromOf, toOf}
 
 -- Bytes 0 to 2 are "TP" and this third one.
@@ -22,6 +23,17 @@ EndOutside s j = (statesOf s ≤ fromOf (stepsPart s) j) ⊎ (statesOf s ≤ toO
 abbrev pub EqualsEarlier : List ℕ → ℕ → Type 0
 EqualsEarlier s j = (i : ℕ) × (i < j) × (fromOf (stepsPart s) i ≡ fromOf (stepsPart s) j) × (toOf (stepsPart s) i ≡ toOf (stepsPart s) j)
 
+-- Step j is greater than step i: by from, then by to.
+abbrev pub Greater : List ℕ → ℕ → ℕ → Type 0
+Greater s j i =
+    (fromOf (stepsPart s) i < fromOf (stepsPart s) j)
+    ⊎ ((fromOf (stepsPart s) i ≡ fromOf (stepsPart s) j) × (toOf (stepsPart s) i < toOf (stepsPart s) j))
+
+-- Step j is not greater than the one before it; step 0 has none before it.
+abbrev pub NotGreater : List ℕ → ℕ → Type 0
+NotGreater s zero = ⊥
+NotGreater s (suc i) = ¬ Greater s (suc i) i
+
 -- The causes of the header and the length, in the order of their numbers.
 abbrev pub headerCauses : ℕ → List ℕ → List Cause
 headerCauses file s =
@@ -29,8 +41,8 @@ headerCauses file s =
     (length s < 9) gives sixNumbers 1 file 0
     -- first three bytes
     ∷ (¬ MagicFits 0x54 s) gives sixNumbers 2 file 0
-    -- version not 1
-    ∷ (¬ (versionOf s ≡ 1)) gives sixNumbers 3 file 0
+    -- version other than 1 and 2
+    ∷ (¬ ((1 ≤ versionOf s) × (versionOf s ≤ 2))) gives sixNumbers 3 file 0
     -- n not 1 to 64
     ∷ (¬ ((1 ≤ statesOf s) × (statesOf s ≤ 64))) gives sixNumbers 4 file 0
     -- start n or more
@@ -49,9 +61,17 @@ endCauses file s = joinBelow (stepsOf s) (λ j. EndOutside s j gives sixNumbers 
 abbrev pub doubledCauses : ℕ → List ℕ → List Cause
 doubledCauses file s = joinBelow (stepsOf s) (λ j. EqualsEarlier s j gives sixNumbers 9 file j ∷ [])
 
--- The causes that turn a table away, in the order of their numbers.
+-- Step not greater than the one before it, a the first such step.
+abbrev pub notGreaterCauses : ℕ → List ℕ → List Cause
+notGreaterCauses file s = joinBelow (stepsOf s) (λ j. NotGreater s j gives sixNumbers 24 file j ∷ [])
+
+-- 9 for version 1, and in its place 24 for the others.
+abbrev pub orderCauses : ℕ → List ℕ → List Cause
+orderCauses file s = only (versionOf s ≡ 1) (doubledCauses file s) ++ only (¬ (versionOf s ≡ 1)) (notGreaterCauses file s)
+
+-- The causes that turn a table away, in document 01's order.
 abbrev pub tableCauses : ℕ → List ℕ → List Cause
-tableCauses file s = headerCauses file s ++ (endCauses file s ++ doubledCauses file s)
+tableCauses file s = headerCauses file s ++ (endCauses file s ++ orderCauses file s)
 
 -- A table is well formed where no cause for turning a table away applies to it; which file it is makes no difference.
 abbrev pub WellFormedTable : List ℕ → Type 0

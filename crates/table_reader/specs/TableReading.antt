@@ -1,7 +1,7 @@
--- What reading a table gives (document 01, Table and What is turned away): a header, or the first cause that applies.
-use Prim.Native.Nat.{ℕ}
+-- What reading a table gives (document 01, Table and What is turned away; document 02, Ask 1): a header, or the first cause that applies.
+use Prim.Native.Nat.{ℕ, zero, suc}
 use mathlib.Core.List.{List}
-use mathlib.Core.Bool.{Bool, cond, not, _&&_, _||_}
+use mathlib.Core.Bool.{Bool, false, cond, not, _&&_, _||_}
 use lib.ListN.{length}
 use lib.Dec.{ltb, leb, eqb}
 use Rattle.lists.specs.Below.{anyBelow, firstBelow}
@@ -9,6 +9,7 @@ use Rattle.tables.specs.Table.{
   headerLength,
   maxStates,
   maxSteps,
+  lastVersion,
   magicFits,
   versionOf,
   statesOf,
@@ -21,9 +22,13 @@ use Rattle.tables.specs.Table.{
   toOf,
 }
 use Rattle.tables.specs.declared.Head.{Head}
-use Rattle.refusals.specs.declared.TableRefusal.the-variants.{Short, Magic, Version, States, Start, Steps, Length, StepEnd, Doubled}
+use Rattle.refusals.specs.declared.TableRefusal.the-variants.{Short, Magic, Version, States, Start, Steps, Length, StepEnd, Doubled, NotGreater}
 use Rattle.table_reader.specs.declared.TableRead.{TableRead}
 use Rattle.table_reader.specs.declared.TableRead.the-variants.{Good, Refused}
+
+-- The version is 1 or 2.
+unfoldable pub versionFits : List ℕ → Bool
+versionFits s = leb 1 (versionOf s) && leb (versionOf s) lastVersion
 
 -- n is 1 to 64.
 unfoldable pub statesFit : List ℕ → Bool
@@ -40,6 +45,15 @@ sameStep steps j i = eqb (fromOf steps i) (fromOf steps j) && eqb (toOf steps i)
 -- Step j equals an earlier one.
 unfoldable pub doubled : List ℕ → ℕ → Bool
 doubled steps j = anyBelow j (sameStep steps j)
+
+-- Step j is greater than step i: by from, then by to.
+unfoldable pub greater : List ℕ → ℕ → ℕ → Bool
+greater steps j i = ltb (fromOf steps i) (fromOf steps j) || (eqb (fromOf steps i) (fromOf steps j) && ltb (toOf steps i) (toOf steps j))
+
+-- Step j is not greater than the one before it; step 0 has none before it.
+unfoldable pub notGreater : List ℕ → ℕ → Bool
+notGreater steps zero = false
+notGreater steps (suc i) = not (greater steps (suc i) i)
 
 -- What the header of a good table says.
 abbrev pub headOf : List ℕ → Head
@@ -59,17 +73,20 @@ unfoldable pub readHeader : List ℕ → TableRead
 readHeader s =
     cond (ltb (length s) headerLength) (Refused Short)
     (cond (not (magicFits 0x54 s)) (Refused Magic)
-    (cond (not (eqb (versionOf s) 1)) (Refused Version)
+    (cond (not (versionFits s)) (Refused Version)
     (readSizes s)))
 
--- Causes 8 and 9 of a table whose header is good: the first step with an end outside, then the first that equals an earlier one.
+-- Causes 8, 9 and 24 of a table whose header is good: the first step with an end outside, then for version 1 the first that equals an earlier one, and
+-- for the others the first that is not greater than the one before it.
 unfoldable pub readSteps : Head → List ℕ → TableRead
 readSteps h steps =
     let outside = firstBelow (h .steps) (endsOutside steps (h .states)) in
     let twice = firstBelow (h .steps) (doubled steps) in
+    let late = firstBelow (h .steps) (notGreater steps) in
     cond (ltb outside (h .steps)) (Refused (StepEnd outside))
-    (cond (ltb twice (h .steps)) (Refused (Doubled twice))
-    (Good h))
+    (cond (eqb (h .version) 1)
+    (cond (ltb twice (h .steps)) (Refused (Doubled twice)) (Good h))
+    (cond (ltb late (h .steps)) (Refused (NotGreater late)) (Good h)))
 
 -- The steps are looked at where the header is good.
 abbrev pub withSteps : List ℕ → TableRead → TableRead

@@ -14,7 +14,7 @@ ghost use mathlib.Core.Path.{_≡_};
 ghost use Rattle.lists.specs.Below.{firstBelow};
 ghost use Rattle.answers.specs.Verdicts.{refusalOf};
 ghost use Rattle.tables.specs.Table.{magicFits};
-ghost use Rattle.table_reader.specs.TableReading.{headOf, readSizes, readHeader, readTable, endsOutside, doubled};
+ghost use Rattle.table_reader.specs.TableReading.{headOf, readSizes, readHeader, readTable, endsOutside, doubled, greater, notGreater};
 ghost use Rattle.table_reader.specs.TableVerdicts.{tableVerdict};
 
 // What reading a table gives.
@@ -84,7 +84,11 @@ fn read_header(s: &[u8]) -> TableRead
     if !magic_fits(s, Head::TABLE) {
         return TableRead::Refused(TableRefusal::Magic);
     }
-    if read_be16(s, 3) != Head::VERSION {
+    let version = read_be16(s, 3);
+    if version < 1 {
+        return TableRead::Refused(TableRefusal::Version);
+    }
+    if Head::LAST_VERSION < version {
         return TableRead::Refused(TableRefusal::Version);
     }
     read_sizes(s)
@@ -128,7 +132,34 @@ fn first_doubled(steps: &[u8], m: usize) -> usize
     m
 }
 
-// Causes 1 to 9, in this order: the header of the table, or its refusal.
+// Whether the one step is greater than the other: by from, then by to.
+fn is_greater(steps: &[u8], later: usize, earlier: usize) -> bool
+    ensures { λ r. ⌜ r ≡ greater (now (steps .entry)) later earlier ⌝ }
+{
+    let s = from(steps, earlier);
+    let t = from(steps, later);
+    if s == t {
+        return to(steps, earlier) < to(steps, later);
+    }
+    s < t
+}
+
+// The first of m steps that is not greater than the one before it, and m where there is none. Step 0 has none before it.
+fn first_not_greater(steps: &[u8], m: usize) -> usize
+    ensures { λ r. ⌜ r ≡ firstBelow m (notGreater (now (steps .entry))) ⌝ }
+{
+    let mut later: usize = 1;
+    while later < m {
+        let earlier = later - 1;
+        if !is_greater(steps, later, earlier) {
+            return later;
+        }
+        later += 1;
+    }
+    m
+}
+
+// Causes 1 to 8, then 9 or by the version 24: the header of the table, or its refusal.
 pub fn read_table(s: &[u8]) -> TableRead
     ensures { λ r. ⌜ r ≡ readTable (now (s .entry)) ⌝ }
 {
@@ -141,9 +172,16 @@ pub fn read_table(s: &[u8]) -> TableRead
     if outside < head.steps {
         return TableRead::Refused(TableRefusal::StepEnd(outside));
     }
-    let doubled = first_doubled(steps, head.steps);
-    if doubled < head.steps {
-        return TableRead::Refused(TableRefusal::Doubled(doubled));
+    if head.version == Head::ANY_ORDER {
+        let doubled = first_doubled(steps, head.steps);
+        if doubled < head.steps {
+            return TableRead::Refused(TableRefusal::Doubled(doubled));
+        }
+        return read;
+    }
+    let late = first_not_greater(steps, head.steps);
+    if late < head.steps {
+        return TableRead::Refused(TableRefusal::NotGreater(late));
     }
     read
 }

@@ -22,6 +22,10 @@ maxSteps = 256
 unfoldable pub magicFits : ℕ → List ℕ → Bool
 magicFits third s = eqb (byteAt s 0) 0x54 && eqb (byteAt s 1) 0x50 && eqb (byteAt s 2) third
 
+-- The versions are 1 and 2.
+abbrev pub lastVersion : ℕ
+lastVersion = 2
+
 -- Bytes 3, 4: version.
 unfoldable pub versionOf : List ℕ → ℕ
 versionOf s = bigEndian s 3 2

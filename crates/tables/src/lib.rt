@@ -25,8 +25,11 @@ impl Head {
     // The most steps of a table.
     pub const MAX_STEPS: usize = 256;
 
-    // The version that is read.
-    pub const VERSION: u64 = 1;
+    // The last version that is read; the first is 1.
+    pub const LAST_VERSION: u64 = 2;
+
+    // The version whose steps may stand in any order; in the others they rise.
+    pub const ANY_ORDER: usize = 1;
 
     // The first byte of a table and of a certificate, "T".
     pub const MAGIC_1: usize = 0x54;

@@ -4,11 +4,11 @@ use mathlib.Core.Bool.{not}
 use native.Mathlib.Omega.{arith}
 use lib.ListN.{length}
 use denote.Ref.{now}
-use borrow.Author.Tests.{lt-ltb, le-ltb, eq-eqb, ne-eqb}
+use borrow.Author.Tests.{lt-ltb, le-ltb, le-leb, lt-leb}
 use borrow.Author.Needs.{needs}
 use Rattle.lists.specs.Numbers.{bigEndian}
 use Rattle.tables.specs.Table.{versionOf}
-use Rattle.table_reader.specs.TableReading.{readHeader}
+use Rattle.table_reader.specs.TableReading.{readHeader, versionFits}
 use Rattle.table_reader.proofs.read_header.Statement.{statement}
 use Rattle.table_reader.proofs.read_header.Tie as tie
 
@@ -34,26 +34,38 @@ read-be16-requires : tie.Need-read-be16-requires
 read-be16-requires c κs = search needs
 
 returns-3 : tie.Need-returns-3
-unfolding readHeader versionOf
+unfolding readHeader versionFits versionOf
 returns-3 c =
     let s = now (c .before .before .before .before .before .before .args .s) in
     rw (
       le-ltb (length s) 9 (omega arith),
       ap not (sym (c .before .before .before .magic-fits .ensures)) ∙ c .before .before .if2 .left,
-      ne-eqb (bigEndian s 3 2) 1 (omega arith),
+      lt-leb 1 (bigEndian s 3 2) (omega arith),
     )
 
-read-sizes-requires : tie.Need-read-sizes-requires
-read-sizes-requires c κs = search needs
-
 returns-4 : tie.Need-returns-4
-unfolding readHeader versionOf
+unfolding readHeader versionFits versionOf
 returns-4 c =
     let s = now (c .before .before .before .before .before .before .before .args .s) in
     rw (
       le-ltb (length s) 9 (omega arith),
       ap not (sym (c .before .before .before .before .magic-fits .ensures)) ∙ c .before .before .before .if2 .left,
-      eq-eqb (bigEndian s 3 2) 1 (omega arith),
+      le-leb 1 (bigEndian s 3 2) (omega arith),
+      lt-leb (bigEndian s 3 2) 2 (omega arith),
+    )
+
+read-sizes-requires : tie.Need-read-sizes-requires
+read-sizes-requires c κs = search needs
+
+returns-5 : tie.Need-returns-5
+unfolding readHeader versionFits versionOf
+returns-5 c =
+    let s = now (c .before .before .before .before .before .before .before .before .args .s) in
+    rw (
+      le-ltb (length s) 9 (omega arith),
+      ap not (sym (c .before .before .before .before .before .magic-fits .ensures)) ∙ c .before .before .before .before .if2 .left,
+      le-leb 1 (bigEndian s 3 2) (omega arith),
+      le-leb (bigEndian s 3 2) 2 (omega arith),
     )
     (c .read-sizes .ensures)
 
@@ -66,5 +78,6 @@ read-header-spec =
     returns-2
     read-be16-requires
     returns-3
+    returns-4
     read-sizes-requires
-    returns-4)
+    returns-5)

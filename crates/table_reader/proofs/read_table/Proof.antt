@@ -1,16 +1,17 @@
--- `table_reader::read_table` meets its contract: the header decides, then the first step with an end outside, then the first doubled one. Assumes nothing.
+-- `table_reader::read_table` meets its contract: the header decides, then the first step with an end outside, then by the version the
+-- first doubled one or the first that is not greater than the one before it. Assumes nothing.
 use Prim.Native.Nat.{ℕ, _≤_, _<_}
 use mathlib.Core.Path.{_≡_, sym, ap, _∙_}
 use mathlib.Core.List.{List}
 use denote.Ref.{now}
-use borrow.Author.Tests.{lt-ltb, le-ltb}
+use borrow.Author.Tests.{lt-ltb, le-ltb, eq-eqb, ne-eqb}
 use borrow.Author.Needs.{needs}
 use Rattle.lists.specs.Below.{firstBelow}
 use Rattle.tables.specs.declared.Head.{Head}
 use Rattle.table_reader.specs.declared.TableRead.{TableRead}
 use Rattle.table_reader.specs.declared.TableRead.the-variants.{Good, Refused}
-use Rattle.refusals.specs.declared.TableRefusal.the-variants.{StepEnd, Doubled}
-use Rattle.table_reader.specs.TableReading.{readTable, readHeader, readSteps, withSteps, endsOutside, doubled}
+use Rattle.refusals.specs.declared.TableRefusal.the-variants.{StepEnd, Doubled, NotGreater}
+use Rattle.table_reader.specs.TableReading.{readTable, readHeader, readSteps, withSteps, endsOutside, doubled, notGreater}
 use Rattle.table_reader.proofs.read_table.Statement.{statement}
 use Rattle.table_reader.proofs.read_table.Tie as tie
 
@@ -31,14 +32,24 @@ module _ (h : Head) (l : List ℕ) (o : ℕ) (oe : o ≡ firstBelow (h .steps) (
   unfolding readSteps
   steps-outside a = rw (← oe, lt-ltb o (h .steps) a)
 
-  module _ (t : ℕ) (te : t ≡ firstBelow (h .steps) (doubled l)) (a : h .steps ≤ o) where
-    steps-doubled : t < h .steps → readSteps h l ≡ Refused (Doubled t)
-    unfolding readSteps
-    steps-doubled b = rw (← oe, ← te, le-ltb o (h .steps) a, lt-ltb t (h .steps) b)
+  module _ (inside : h .steps ≤ o) where
+    module _ (v : h .version ≡ 1) (t : ℕ) (te : t ≡ firstBelow (h .steps) (doubled l)) where
+      steps-doubled : t < h .steps → readSteps h l ≡ Refused (Doubled t)
+      unfolding readSteps
+      steps-doubled b = rw (← oe, ← te, le-ltb o (h .steps) inside, eq-eqb (h .version) 1 v, lt-ltb t (h .steps) b)
 
-    steps-good : h .steps ≤ t → readSteps h l ≡ Good h
-    unfolding readSteps
-    steps-good b = rw (← oe, ← te, le-ltb o (h .steps) a, le-ltb t (h .steps) b)
+      steps-once : h .steps ≤ t → readSteps h l ≡ Good h
+      unfolding readSteps
+      steps-once b = rw (← oe, ← te, le-ltb o (h .steps) inside, eq-eqb (h .version) 1 v, le-ltb t (h .steps) b)
+
+    module _ (v : h .version ≡ 1 → ⊥) (t : ℕ) (te : t ≡ firstBelow (h .steps) (notGreater l)) where
+      steps-fall : t < h .steps → readSteps h l ≡ Refused (NotGreater t)
+      unfolding readSteps
+      steps-fall b = rw (← oe, ← te, le-ltb o (h .steps) inside, ne-eqb (h .version) 1 v, lt-ltb t (h .steps) b)
+
+      steps-rise : h .steps ≤ t → readSteps h l ≡ Good h
+      unfolding readSteps
+      steps-rise b = rw (← oe, ← te, le-ltb o (h .steps) inside, ne-eqb (h .version) 1 v, le-ltb t (h .steps) b)
 
 read-header-requires : tie.Need-read-header-requires
 read-header-requires c κs = search needs
@@ -70,17 +81,34 @@ first-doubled-requires c κs = search needs
 
 returns-3 : tie.Need-returns-3
 returns-3 c =
-    let f = c .before .before .before .before .before .first-outside in
+    let f = c .before .before .before .before .before .before .before .first-outside in
     let g = c .before .before .first-doubled in
-    let l = c .before .before .before .if1 .left in
-    sym (by-steps (c .before .before .before .before .before .before) ∙ steps-doubled _ _ (f .result) (f .ensures) (g .result) (g .ensures) l (c .if2 .taken))
+    sym (by-steps (c .before .before .before .before .before .before .before .before)
+    ∙ steps-doubled _ _ (f .result) (f .ensures) (c .before .before .before .before .before .if1 .left) (c .before .before .before .if2 .taken) (g .result) (g .ensures) (c .if3 .taken))
 
 returns-4 : tie.Need-returns-4
 returns-4 c =
-    let f = c .before .before .before .before .before .first-outside in
+    let f = c .before .before .before .before .before .before .before .first-outside in
     let g = c .before .before .first-doubled in
-    let l = c .before .before .before .if1 .left in
-    sym (by-steps (c .before .before .before .before .before .before) ∙ steps-good _ _ (f .result) (f .ensures) (g .result) (g .ensures) l (c .if2 .left))
+    sym (by-steps (c .before .before .before .before .before .before .before .before)
+    ∙ steps-once _ _ (f .result) (f .ensures) (c .before .before .before .before .before .if1 .left) (c .before .before .before .if2 .taken) (g .result) (g .ensures) (c .if3 .left))
+
+first-not-greater-requires : tie.Need-first-not-greater-requires
+first-not-greater-requires c κs = search needs
+
+returns-5 : tie.Need-returns-5
+returns-5 c =
+    let f = c .before .before .before .before .before .before .before .first-outside in
+    let g = c .before .before .first-not-greater in
+    sym (by-steps (c .before .before .before .before .before .before .before .before)
+    ∙ steps-fall _ _ (f .result) (f .ensures) (c .before .before .before .before .before .if1 .left) (c .before .before .before .if2 .left) (g .result) (g .ensures) (c .if4 .taken))
+
+returns-6 : tie.Need-returns-6
+returns-6 c =
+    let f = c .before .before .before .before .before .before .before .first-outside in
+    let g = c .before .before .first-not-greater in
+    sym (by-steps (c .before .before .before .before .before .before .before .before)
+    ∙ steps-rise _ _ (f .result) (f .ensures) (c .before .before .before .before .before .if1 .left) (c .before .before .before .if2 .left) (g .result) (g .ensures) (c .if4 .left))
 
 pub read-table-spec : {M : Type 1} → statement M
 read-table-spec =
@@ -95,4 +123,7 @@ read-table-spec =
     returns-2
     first-doubled-requires
     returns-3
-    returns-4)
+    returns-4
+    first-not-greater-requires
+    returns-5
+    returns-6)

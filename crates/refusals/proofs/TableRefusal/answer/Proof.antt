@@ -30,6 +30,9 @@ enum-known-refusal c = search needs
 enum-known-refusal-2 : tie.Need-enum-known-refusal-2
 enum-known-refusal-2 c = search needs
 
+enum-known-refusal-3 : tie.Need-enum-known-refusal-3
+enum-known-refusal-3 c = search needs
+
 returns : tie.Need-returns
 returns c = rw (c .enum-told .given .1)
 
@@ -57,6 +60,9 @@ returns-8 c = rw (c .before .refusal .given .1)
 returns-9 : tie.Need-returns-9
 returns-9 c = rw (c .before .refusal2 .given .1)
 
+returns-10 : tie.Need-returns-10
+returns-10 c = rw (c .before .refusal3 .given .1)
+
 pub answer-spec : {M : Type 1} → statement M
 answer-spec =
     tie.close
@@ -70,6 +76,7 @@ answer-spec =
     enum-told-7
     enum-known-refusal
     enum-known-refusal-2
+    enum-known-refusal-3
     returns
     returns-2
     returns-3
@@ -78,4 +85,5 @@ answer-spec =
     returns-6
     returns-7
     returns-8
-    returns-9)
+    returns-9
+    returns-10)

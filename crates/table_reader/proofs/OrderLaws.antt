@@ -1,0 +1,47 @@
+-- Laws of the order of steps: rising steps are all different, so that in a table that is read no step stands twice, whichever its version. Assumes nothing.
+use Prim.Native.Nat.{ℕ, zero, suc, _<_}
+use mathlib.Core.Path.{_≡_, subst}
+use mathlib.Core.Logic.{inl, inr, ⊎-elim}
+use mathlib.Core.List.{List}
+use native.Mathlib.Nat.{not-suc-le-zero}
+use native.Mathlib.Omega.{arith}
+use native.Mathlib.Decide.{decLt}
+use Rattle.answers.specs.Numbers.{sixNumbers}
+use Rattle.answers.specs.Causes.{only, NoCause}
+use Rattle.answers.proofs.CauseLaws.{append-none, below-none, none-only}
+use Rattle.answers.proofs.DecideLaws.{decides-stable, decides-either, eqb-decides}
+use Rattle.tables.specs.Table.{versionOf, stepsOf, stepsPart}
+use Rattle.table_reader.specs.TableCauses.{Greater, NotGreater, EqualsEarlier, doubledCauses, notGreaterCauses, orderCauses}
+use Rattle.table_reader.proofs.TestLaws.{greater-decides}
+
+module _ (s : List ℕ) where
+  greater-trans : (i j k : ℕ) → Greater s j i → Greater s k j → Greater s k i
+  greater-trans i j k (inl a) (inl b) = inl (omega arith)
+  greater-trans i j k (inl a) (inr b) = inl (omega arith)
+  greater-trans i j k (inr a) (inl b) = inl (omega arith)
+  greater-trans i j k (inr a) (inr b) = inr (omega arith, omega arith)
+
+  module _ (m : ℕ) (rising : (j : ℕ) → j < m → ¬ NotGreater s j) where
+    -- a step is greater than every earlier one
+    pub rising-greater : (i j : ℕ) → i < j → j < m → Greater s j i
+    rising-greater i zero a l = absurd (not-suc-le-zero a)
+    rising-greater i (suc j) a l =
+        let next : Greater s (suc j) j = decides-stable (greater-decides (stepsPart s) (suc j) j) (rising (suc j) l) in
+        elim (decLt i j) [
+          | yes b ↦ greater-trans i j (suc j) (rising-greater i j b (omega arith)) next
+          | no b ↦ subst (λ (k : ℕ). Greater s (suc j) k) (omega arith) next
+        ]
+
+    -- rising steps are all different
+    pub rising-once : (j : ℕ) → j < m → ¬ EqualsEarlier s j
+    rising-once j l (i, a, p, q) = ⊎-elim (λ h. omega arith) (λ h. omega arith) (rising-greater i j a l)
+
+  -- no step stands twice, whichever the version
+  pub steps-once : NoCause (orderCauses 0 s) → (j : ℕ) → j < stepsOf s → ¬ EqualsEarlier s j
+  steps-once none =
+      let parts = append-none (only (versionOf s ≡ 1) (doubledCauses 0 s)) (only (¬ (versionOf s ≡ 1)) (notGreaterCauses 0 s)) none in
+      ⊎-elim
+      (λ v. below-none (stepsOf s) (EqualsEarlier s) (sixNumbers 9 0) (none-only (versionOf s ≡ 1) (doubledCauses 0 s) v (parts .0)))
+      (λ v. rising-once (stepsOf s)
+      (below-none (stepsOf s) (NotGreater s) (sixNumbers 24 0) (none-only (¬ (versionOf s ≡ 1)) (notGreaterCauses 0 s) v (parts .1))))
+      (decides-either (eqb-decides (versionOf s) 1))
