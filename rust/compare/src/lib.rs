@@ -6,8 +6,8 @@ mod names;
 mod path_property;
 mod report;
 
-use inputs::{JudgeCases, MakeCases, ProgramCases, Random, PROGRAM_FORMS};
-use names::{limit_names, name, names, size_names};
+use inputs::{JudgeCases, MakeCases, ProgramCases, Random, PROGRAM_FORMS, VERSIONS};
+use names::{limit_names, mix_name, mix_names, name, names, size_names, table_codes};
 pub use path_property::Implementation;
 pub use report::Report;
 
@@ -17,14 +17,25 @@ type Answer = [u64; 6];
 pub fn judge(
     count: usize,
     seed: u64,
+    under_test: impl FnMut(&[u8], &[u8], &[u8]) -> Answer,
+) -> Report {
+    judge_in(VERSIONS, count, seed, under_test)
+}
+
+/// The same on tables of these versions.
+pub fn judge_in(
+    versions: &'static [u16],
+    count: usize,
+    seed: u64,
     mut under_test: impl FnMut(&[u8], &[u8], &[u8]) -> Answer,
 ) -> Report {
-    let mut required = names("accepted", 1..=19);
+    let mut required = names("accepted", table_codes(versions).chain(10..=19));
     required.extend(["2a", "2b", "2c"].map(String::from));
     required.extend(limit_names("accepted"));
+    required.extend(mix_names("accepted", versions));
     let mut report = Report::new(required);
 
-    for case in JudgeCases::new(seed, count) {
+    for case in JudgeCases::in_versions(versions, seed, count) {
         let (left, right, certificate) = (&case.left, &case.right, &case.certificate);
         let expected = oracle::judge(left, right, certificate);
         let found = under_test(left, right, certificate);
@@ -44,6 +55,7 @@ pub fn judge(
             report.see_times("2a", expected[3]);
             report.see_times("2b", expected[4]);
             report.see_times("2c", expected[5]);
+            report.see(mix_name("accepted", left, right));
             for size in [size_names("accepted", left), size_names("accepted", right)].concat() {
                 report.see(size);
             }
@@ -59,22 +71,31 @@ pub fn judge(
 pub fn make(
     count: usize,
     seed: u64,
+    under_test: impl FnMut(&[u8], &[u8], &[u8], &mut [u8]) -> Answer,
+) -> Report {
+    make_in(VERSIONS, count, seed, under_test)
+}
+
+/// The same on tables of these versions.
+pub fn make_in(
+    versions: &'static [u16],
+    count: usize,
+    seed: u64,
     mut under_test: impl FnMut(&[u8], &[u8], &[u8], &mut [u8]) -> Answer,
 ) -> Report {
-    let mut required = names(
-        "made",
-        [1, 2, 3, 4, 5, 6, 7, 8, 9, 15, 16, 17, 20, 21, 22, 23],
-    );
+    let further = [15, 16, 17, 20, 21, 22, 23];
+    let mut required = names("made", table_codes(versions).chain(further));
     required.extend(RUNS.map(|run| format!("made, {run} rank above 0")));
     required.extend(RUNS.map(|run| format!("made, {run} rank of 63")));
     required.extend(["made, output exact", "made, output longer"].map(String::from));
     required.push("21, one byte short".to_string());
     required.push(LARGEST.to_string());
     required.extend(limit_names("made"));
+    required.extend(mix_names("made", versions));
     let mut report = Report::new(required);
     let mut random = Random::new(!seed);
 
-    for case in MakeCases::new(seed, count) {
+    for case in MakeCases::in_versions(versions, seed, count) {
         let (left, right, relation) = (&case.left, &case.right, &case.relation);
         let pattern = random.bytes(case.output_length);
         let mut expected_output = pattern.clone();
@@ -141,6 +162,7 @@ fn see_made(
     for size in [size_names("made", left), size_names("made", right)].concat() {
         report.see(size);
     }
+    report.see(mix_name("made", left, right));
     let (n1, n2) = (left[5] as usize, right[5] as usize);
     let m1 = left[7] as usize * 256 + left[8] as usize;
     let (rows, mut rest) = certificate[11..].split_at(8 * n1);
@@ -163,7 +185,7 @@ fn see_made(
 /// Compares a program with the oracle's on `count` inputs. The closure is given
 /// the standard input and gives what was printed.
 pub fn program(count: usize, seed: u64, mut under_test: impl FnMut(&[u8]) -> String) -> Report {
-    let mut required = names("accepted", 1..=19);
+    let mut required = names("accepted", table_codes(VERSIONS).chain(10..=19));
     required.extend(PROGRAM_FORMS.map(String::from));
     let mut report = Report::new(required);
 

@@ -158,9 +158,11 @@ impl Check {
     }
 }
 
-/// The table with these marks whose steps are the bits of `steps`.
+/// The table with these marks whose steps, which rise, are the bits of `steps`. Every
+/// other one is in version 2.
 fn table(start: usize, marks: &[u16], steps: usize) -> Vec<u8> {
     let n = marks.len();
+    let version = 1 + (steps % 2) as u16;
     let steps = (0..n * n)
         .filter(|pair| steps >> pair & 1 == 1)
         .map(|pair| Step {
@@ -169,6 +171,7 @@ fn table(start: usize, marks: &[u16], steps: usize) -> Vec<u8> {
         })
         .collect();
     table_bytes(&Table {
+        version,
         start,
         marks: marks.to_vec(),
         steps,

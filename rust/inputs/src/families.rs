@@ -3,12 +3,12 @@
 
 use crate::random::Random;
 use crate::split::{relate_copies, split, SplitInto};
-use crate::system::System;
+use crate::system::{save_in, System};
 use oracle::{Step, Table};
 
-/// A system from one of the families.
-pub fn any_system(random: &mut Random) -> System {
-    let system = match random.below(100) {
+/// A system from one of the families, each table in one of these versions.
+pub fn any_system(random: &mut Random, versions: &[u16]) -> System {
+    let mut system = match random.below(100) {
         0..=9 => random_system(random),
         10..=34 => pruned_system(random),
         35..=59 => thinned_system(random),
@@ -21,10 +21,12 @@ pub fn any_system(random: &mut Random) -> System {
         _ => full_system(random),
     };
     if random.percent(50) {
-        system.exchanged()
-    } else {
-        system
+        system = system.exchanged();
     }
+    for table in [&mut system.left, &mut system.right] {
+        save_in(table, random.pick(versions));
+    }
+    system
 }
 
 /// Random tables of at most six states, and a random relation.
@@ -123,6 +125,7 @@ pub fn cycles(random: &mut Random) -> System {
             .collect();
         random.shuffle(&mut order);
         Table {
+            version: 1,
             start: 0,
             marks: (0..states).map(|s| (s % round) as u16 * 257).collect(),
             steps: order,
@@ -157,6 +160,7 @@ pub fn long_system(random: &mut Random) -> System {
         .unwrap_or(0)
         + 1;
     let small = Table {
+        version: 1,
         start: 0,
         marks: (0..states as u16).collect(),
         steps: steps.iter().map(|&(from, to)| Step { from, to }).collect(),
@@ -178,6 +182,7 @@ pub fn long_system(random: &mut Random) -> System {
 pub fn round_trip(random: &mut Random) -> System {
     let states = random.pick(&[2, 3, 63, 64]);
     let cycle = |states: usize| Table {
+        version: 1,
         start: 0,
         marks: vec![0x0101; states],
         steps: (0..states)
@@ -220,6 +225,7 @@ pub fn all_related() -> System {
         to: (j / 4 + j % 4 + 1) % 64,
     };
     let table = Table {
+        version: 1,
         start: 0,
         marks: vec![0; 64],
         steps: (0..256).map(step).collect(),
@@ -239,6 +245,7 @@ pub fn long_chains() -> System {
     let ahead = (1..64).flat_map(|by| (by..64).map(move |to| Step { from: to - by, to }));
     let all_from = |from| (0..64).map(move |to| Step { from, to });
     let table = |steps: Vec<Step>| Table {
+        version: 1,
         start: 0,
         marks: vec![0; 64],
         steps,
@@ -280,6 +287,7 @@ pub fn long_distances() -> System {
         })
     });
     let table = |steps: Vec<Step>| Table {
+        version: 1,
         start: 0,
         marks: vec![0; 64],
         steps,
@@ -299,6 +307,7 @@ pub fn stepless_system(random: &mut Random) -> System {
     let mut table = || {
         let states = random.pick(&[1, 2, 3, 63, 64]);
         Table {
+            version: 1,
             start: random.below(states),
             marks: vec![0x0100; states],
             steps: Vec::new(),
@@ -328,6 +337,7 @@ pub fn random_table(random: &mut Random, most: usize) -> Table {
     }
     random.shuffle(&mut steps);
     Table {
+        version: 1,
         start: random.below(states),
         // Marks that differ in the high byte only, or in the low byte only.
         marks: (0..states)

@@ -4,7 +4,7 @@ use crate::byte_edits::BYTE_EDITS;
 use crate::certificate_edits::{EQUAL_EDITS, HEADER_EDITS, RANK_EDITS};
 use crate::families::any_system;
 use crate::random::Random;
-use crate::system::System;
+use crate::system::{System, VERSIONS};
 use crate::system_edits::SYSTEM_EDITS;
 use crate::table_edits::{TABLE_EDITS, TABLE_RESIZES};
 
@@ -18,6 +18,7 @@ pub struct JudgeCase {
 
 /// Gives `count` inputs for the judge. Each system serves for several of them.
 pub struct JudgeCases {
+    versions: &'static [u16],
     random: Random,
     remaining: usize,
     system: System,
@@ -28,9 +29,15 @@ const CASES_PER_SYSTEM: usize = 12;
 
 impl JudgeCases {
     pub fn new(seed: u64, count: usize) -> JudgeCases {
+        JudgeCases::in_versions(VERSIONS, seed, count)
+    }
+
+    /// Those whose tables, before a change to their bytes, are of these versions.
+    pub fn in_versions(versions: &'static [u16], seed: u64, count: usize) -> JudgeCases {
         let mut random = Random::new(seed);
-        let (system, certificate) = certified_system(&mut random);
+        let (system, certificate) = certified_system(&mut random, versions);
         JudgeCases {
+            versions,
             random,
             remaining: count,
             system,
@@ -48,7 +55,7 @@ impl Iterator for JudgeCases {
         }
         self.remaining -= 1;
         if self.remaining % CASES_PER_SYSTEM == 0 {
-            (self.system, self.certificate) = certified_system(&mut self.random);
+            (self.system, self.certificate) = certified_system(&mut self.random, self.versions);
         }
 
         let random = &mut self.random;
@@ -84,8 +91,8 @@ impl Iterator for JudgeCases {
 }
 
 /// A system, and the certificate made for it; where none can be made, some ranks.
-fn certified_system(random: &mut Random) -> (System, Vec<u8>) {
-    let mut system = any_system(random);
+fn certified_system(random: &mut Random, versions: &[u16]) -> (System, Vec<u8>) {
+    let mut system = any_system(random, versions);
     if random.percent(30) {
         let (_, edit) = random.pick(SYSTEM_EDITS);
         edit(random, &mut system);
@@ -157,7 +164,7 @@ mod tests {
     fn equal_edits_change_no_answer() {
         let mut random = Random::new(1);
         for _ in 0..2_000 {
-            let (system, certificate) = certified_system(&mut random);
+            let (system, certificate) = certified_system(&mut random, VERSIONS);
             let (left, right) = (system.left_bytes(), system.right_bytes());
             let before = oracle::judge(&left, &right, &certificate);
             for (label, edit) in EQUAL_EDITS {

@@ -20,4 +20,4 @@ pub use make_cases::{MakeCase, MakeCases};
 pub use program_cases::{ProgramCase, ProgramCases, PROGRAM_FORMS};
 pub use random::Random;
 pub use spaced::spaced;
-pub use system::{relation_bytes, table_bytes, System};
+pub use system::{relation_bytes, save_in, table_bytes, System, VERSIONS};

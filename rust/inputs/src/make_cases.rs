@@ -5,7 +5,7 @@ use crate::certificate_edits::set_bit_too_high;
 use crate::families::any_system;
 use crate::judge_cases::edit_table;
 use crate::random::Random;
-use crate::system::System;
+use crate::system::{System, VERSIONS};
 use crate::system_edits::SYSTEM_EDITS;
 
 pub struct MakeCase {
@@ -20,6 +20,7 @@ pub struct MakeCase {
 
 /// Gives `count` inputs for the maker. Each system serves for several of them.
 pub struct MakeCases {
+    versions: &'static [u16],
     random: Random,
     remaining: usize,
     system: System,
@@ -29,9 +30,15 @@ const CASES_PER_SYSTEM: usize = 6;
 
 impl MakeCases {
     pub fn new(seed: u64, count: usize) -> MakeCases {
+        MakeCases::in_versions(VERSIONS, seed, count)
+    }
+
+    /// Those whose tables, before a change to their bytes, are of these versions.
+    pub fn in_versions(versions: &'static [u16], seed: u64, count: usize) -> MakeCases {
         let mut random = Random::new(seed);
-        let system = any_system(&mut random);
+        let system = any_system(&mut random, versions);
         MakeCases {
+            versions,
             random,
             remaining: count,
             system,
@@ -48,7 +55,7 @@ impl Iterator for MakeCases {
         }
         self.remaining -= 1;
         if self.remaining % CASES_PER_SYSTEM == 0 {
-            self.system = any_system(&mut self.random);
+            self.system = any_system(&mut self.random, self.versions);
         }
 
         let random = &mut self.random;

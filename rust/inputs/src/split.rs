@@ -90,6 +90,7 @@ pub fn split(random: &mut Random, small: &Table, into: SplitInto) -> Copies {
         .collect();
     Copies {
         table: Table {
+            version: 1,
             start: random.pick(&starts),
             marks,
             steps,

@@ -59,6 +59,20 @@ impl System {
         bytes
     }
 
+    /// The same system with its tables in every mix of the versions.
+    pub fn in_all_versions(&self) -> Vec<System> {
+        let mut systems = Vec::new();
+        for &left in VERSIONS {
+            for &right in VERSIONS {
+                let mut system = self.clone();
+                save_in(&mut system.left, left);
+                save_in(&mut system.right, right);
+                systems.push(system);
+            }
+        }
+        systems
+    }
+
     /// The same system with left and right exchanged.
     pub fn exchanged(self) -> System {
         let related = (0..self.right.states())
@@ -72,8 +86,20 @@ impl System {
     }
 }
 
+/// The versions of a table.
+pub const VERSIONS: &[u16] = &[1, 2];
+
+/// Puts a table into a version: the steps of version 2 rise.
+pub fn save_in(table: &mut Table, version: u16) {
+    table.version = version;
+    if version == 2 {
+        table.steps.sort();
+    }
+}
+
 pub fn table_bytes(table: &Table) -> Vec<u8> {
-    let mut bytes = b"TPT\0\x01".to_vec();
+    let mut bytes = b"TPT".to_vec();
+    bytes.extend(table.version.to_be_bytes());
     bytes.extend([table.states() as u8, table.start as u8]);
     bytes.extend((table.steps.len() as u16).to_be_bytes());
     for mark in &table.marks {

@@ -2,7 +2,7 @@
 //! longer have the path property.
 
 use crate::random::Random;
-use crate::system::System;
+use crate::system::{save_in, System};
 use oracle::{Step, Table};
 
 /// A change and what it is called.
@@ -74,5 +74,6 @@ fn one_side<'a>(random: &mut Random, system: &'a mut System) -> &'a mut Table {
 fn add_step(table: &mut Table, step: Step) {
     if table.steps.len() < 256 && !table.steps.contains(&step) {
         table.steps.push(step);
+        save_in(table, table.version);
     }
 }

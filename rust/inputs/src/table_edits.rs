@@ -1,6 +1,7 @@
-//! Near-misses of a table, for each cause 1 to 9 in rising order. Each expects a
-//! well-formed table and gives one that is turned away for the cause named, unless
-//! the table is too small for it. Two may be made, the later one in the list first.
+//! Near-misses of a table, for each cause 1 to 9 and 24 in the order of the causes.
+//! Each expects a well-formed table and gives one that is turned away for the cause
+//! named, unless the table is too small or of a version that does not have the cause.
+//! Two may be made, the later one in the list first.
 
 use crate::byte_edits::ByteEdit;
 use crate::random::Random;
@@ -13,7 +14,7 @@ pub const TABLE_EDITS: &[ByteEdit] = &[
         table[random.below(3)] ^= 1 << random.below(8);
     }),
     ("3: version", |random, table| {
-        let version: [u8; 2] = random.pick(&[[0, 0], [0, 2], [1, 0], [1, 1], [255, 255]]);
+        let version: [u8; 2] = random.pick(&[[0, 0], [0, 3], [1, 0], [1, 1], [1, 2], [255, 255]]);
         table[3..5].copy_from_slice(&version);
     }),
     ("4: n", |random, table| {
@@ -57,21 +58,37 @@ pub const TABLE_EDITS: &[ByteEdit] = &[
         }
     }),
     (
-        "8 before 9: step repeated, and a step end",
+        "8 before 9 and 24: step repeated, and a step end",
         |random, table| {
             repeat_step(random, table);
             step_end_too_high(random, table);
         },
     ),
-    ("9: step repeated", |random, table| {
+    ("9 or 24: step repeated", |random, table| {
         repeat_step(random, table);
         if random.percent(30) {
             repeat_step(random, table);
         }
     }),
+    (
+        "9 or 24: a step equal to the one before it",
+        |random, table| {
+            if let Some(later) = any_later_step(random, table) {
+                table.copy_within(later - 2..later, later);
+            }
+        },
+    ),
+    ("24: two neighbours exchanged", |random, table| {
+        if let Some(later) = any_later_step(random, table) {
+            table[later - 2..later + 2].rotate_left(2);
+        }
+    }),
+    ("24: the steps of version 1 in version 2", |_, table| {
+        table[3..5].copy_from_slice(&[0, 2]);
+    }),
 ];
 
-/// Changes to the sizes after which the table is still well formed.
+/// Changes after which the table is still well formed.
 pub const TABLE_RESIZES: &[ByteEdit] = &[
     ("n raised to 63 or 64", |random, table| {
         let n = random.pick(&[63, 64]);
@@ -92,6 +109,17 @@ pub const TABLE_RESIZES: &[ByteEdit] = &[
             }
         }
         table[7..9].copy_from_slice(&(m as u16).to_be_bytes());
+        if table[3..5] == [0, 2] {
+            let mut steps: Vec<[u8; 2]> = table[9 + 2 * n..]
+                .chunks_exact(2)
+                .map(|step| [step[0], step[1]])
+                .collect();
+            steps.sort();
+            table.splice(9 + 2 * n.., steps.concat());
+        }
+    }),
+    ("the steps of version 2 in version 1", |_, table| {
+        table[3..5].copy_from_slice(&[0, 1]);
     }),
 ];
 
@@ -114,6 +142,12 @@ fn step_end_too_high(random: &mut Random, table: &mut [u8]) {
         let place = random.within(first_step, table.len() - 1);
         table[place] = random.pick(&[n, n, n + 1, 64, 255]);
     }
+}
+
+/// Where a step begins that has one before it.
+fn any_later_step(random: &mut Random, table: &[u8]) -> Option<usize> {
+    let m = steps(table);
+    (m >= 2).then(|| 9 + 2 * states(table) + 2 * random.within(1, m - 1))
 }
 
 fn repeat_step(random: &mut Random, table: &mut [u8]) {

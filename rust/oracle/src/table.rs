@@ -2,8 +2,8 @@
 
 use crate::Answer;
 
-/// A step from one state to another.
-#[derive(Clone, Copy, Debug, PartialEq, Eq)]
+/// A step from one state to another. Steps are compared "by from, then by to".
+#[derive(Clone, Copy, Debug, PartialEq, Eq, PartialOrd, Ord)]
 pub struct Step {
     pub from: usize,
     pub to: usize,
@@ -12,6 +12,7 @@ pub struct Step {
 /// A table as it stands in a file. The number of states is the number of marks.
 #[derive(Clone, Debug, PartialEq, Eq)]
 pub struct Table {
+    pub version: u16,
     pub start: usize,
     pub marks: Vec<u16>,
     pub steps: Vec<Step>,
@@ -44,7 +45,8 @@ pub fn number(bytes: &[u8]) -> usize {
 }
 
 /// Reads a table, or gives the answer that turns it away. `file` is 0 for the
-/// left table and 1 for the right one. The causes are tried in rising order.
+/// left table and 1 for the right one. The causes are tried in rising order, 24 "in
+/// place of 9".
 pub fn read_table(bytes: &[u8], file: u64) -> Result<Table, Answer> {
     let refuse = |code: u64, a: usize| Err([code, file, a as u64, 0, 0, 0]);
 
@@ -56,8 +58,9 @@ pub fn read_table(bytes: &[u8], file: u64) -> Result<Table, Answer> {
     if bytes[0..3] != *b"TPT" {
         return refuse(2, 0);
     }
-    // "Bytes 3, 4: version, 1."
-    if number(&bytes[3..5]) != 1 {
+    // "3 is now for versions other than 1 and 2"
+    let version = number(&bytes[3..5]) as u16;
+    if version != 1 && version != 2 {
         return refuse(3, 0);
     }
     // "Byte 5: n, states, 1 to 64."
@@ -98,12 +101,20 @@ pub fn read_table(bytes: &[u8], file: u64) -> Result<Table, Answer> {
     if let Some(j) = (0..m).find(|&j| steps[j].from >= n || steps[j].to >= n) {
         return refuse(8, j);
     }
-    // "no step twice"
-    if let Some(j) = (0..m).find(|&j| steps[..j].contains(&steps[j])) {
-        return refuse(9, j);
+    if version == 1 {
+        // "no step twice"
+        if let Some(j) = (0..m).find(|&j| steps[..j].contains(&steps[j])) {
+            return refuse(9, j);
+        }
+    } else {
+        // "24 when a step of a version 2 table is not greater than the one before it"
+        if let Some(j) = (1..m).find(|&j| !(steps[j] > steps[j - 1])) {
+            return refuse(24, j);
+        }
     }
 
     Ok(Table {
+        version,
         start,
         marks,
         steps,

@@ -120,7 +120,8 @@ pub(crate) fn read_table(bytes: &[u8], file: u64) -> Result<Table<'_>, Answer> {
     if &bytes[..3] != b"TPT" {
         return refuse(2, 0);
     }
-    if bytes[3..5] != [0, 1] {
+    let version = u16::from_be_bytes([bytes[3], bytes[4]]);
+    if !(1..=2).contains(&version) {
         return refuse(3, 0);
     }
     let states = bytes[5] as usize;
@@ -145,11 +146,16 @@ pub(crate) fn read_table(bytes: &[u8], file: u64) -> Result<Table<'_>, Answer> {
 
     let mut successors = [0u64; 64];
     let mut first = [0; 65];
+    let mut before = None;
     for (j, step) in steps.chunks_exact(2).enumerate() {
         let (from, to) = (step[0] as usize, step[1]);
-        if successors[from] >> to & 1 == 1 {
+        if version == 1 && successors[from] >> to & 1 == 1 {
             return refuse(9, j);
         }
+        if version == 2 && before >= Some(step) {
+            return refuse(24, j);
+        }
+        before = Some(step);
         successors[from] |= 1 << to;
         first[from + 1] += 1;
     }

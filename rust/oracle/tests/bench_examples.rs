@@ -152,6 +152,24 @@ fn limits_of_n_and_m() {
     );
 }
 
+/// "its steps rise by from, then by to"
+#[test]
+fn steps_of_version_2_rise() {
+    let answer = |steps: &[[u8; 2]]| {
+        let mut bytes = table(0, &[0; 3], steps);
+        bytes[4] = 2;
+        judge(&bytes, &[], &[])
+    };
+    let read = [1, 1, 0, 0, 0, 0]; // the left table is read, the right is empty
+    assert_eq!(answer(&[]), read);
+    assert_eq!(answer(&[[2, 1]]), read);
+    assert_eq!(answer(&[[0, 2], [1, 0], [1, 1]]), read);
+    assert_eq!(answer(&[[0, 0], [0, 0]]), [24, 0, 1, 0, 0, 0]);
+    assert_eq!(answer(&[[0, 0], [1, 0], [0, 1]]), [24, 0, 2, 0, 0, 0]);
+    assert_eq!(answer(&[[1, 2], [1, 1], [1, 0]]), [24, 0, 1, 0, 0, 0]);
+    assert_eq!(answer(&[[1, 2], [1, 1], [3, 0]]), [8, 0, 2, 0, 0, 0]);
+}
+
 #[test]
 fn of_two_bad_tables_the_left_is_reported() {
     judged(&P[..8], &Q[..8], &K, "1 0 0 0 0 0");

@@ -7,6 +7,12 @@ fn the_judge_equals_the_oracle() {
     compare::judge(300_000, 21, stutter::judge).require_all();
 }
 
+/// As many files of version 1 alone: they keep their answers.
+#[test]
+fn the_judge_equals_the_oracle_on_version_1() {
+    compare::judge_in(&[1], 300_000, 20, stutter::judge).require_all();
+}
+
 /// Fewer than six places are left as they were.
 #[test]
 fn a_short_answer_is_left_alone() {

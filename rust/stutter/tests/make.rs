@@ -1,6 +1,7 @@
 //! The proved maker, through the C interface, beside the oracle.
 
-use inputs::{all_related, long_chains, long_distances, spaced, MakeCase, MakeCases, Random};
+use inputs::{all_related, long_chains, long_distances, spaced};
+use inputs::{MakeCase, MakeCases, Random, System};
 
 /// The proved maker, and the proved judge on each certificate that it makes.
 fn make_and_judge(left: &[u8], right: &[u8], relation: &[u8], output: &mut [u8]) -> [u64; 6] {
@@ -19,12 +20,19 @@ fn the_maker_equals_the_oracle() {
     compare::make(100_000, 25, make_and_judge).require_all();
 }
 
-/// 64 states and 256 steps a side: all pairs related, chains of 63 steps, chases of
-/// 63 steps.
+/// As many files of version 1 alone: they keep their answers.
+#[test]
+fn the_maker_equals_the_oracle_on_version_1() {
+    compare::make_in(&[1], 100_000, 24, make_and_judge).require_all();
+}
+
+/// 64 states and 256 steps a side, in every mix of versions: all pairs related, chains
+/// of 63 steps, chases of 63 steps.
 #[test]
 fn the_largest_certificates_are_made() {
     for system in [all_related(), long_chains(), long_distances()] {
-        for system in [system.clone(), system.exchanged()] {
+        let both = [system.clone(), system.exchanged()];
+        for system in both.iter().flat_map(System::in_all_versions) {
             let (left, right) = (system.left_bytes(), system.right_bytes());
             let (expected, certificate) = system.make();
             assert_eq!(expected, [0, 0, 41_483, 0, 0, 0]);

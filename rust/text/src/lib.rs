@@ -130,6 +130,7 @@ impl Named {
             return fail("a table has no line 'start'");
         };
         Ok(Table {
+            version: 1,
             start,
             marks: self.marks,
             steps: self.steps,

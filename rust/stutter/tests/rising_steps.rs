@@ -1,0 +1,57 @@
+//! One table, saved by two engineers who hold its steps in different orders.
+
+use inputs::{any_system, save_in, Random, System};
+
+/// The same system with its steps in another order, both saved in this version.
+fn saved_twice(random: &mut Random, system: &System, version: u16) -> [System; 2] {
+    let mut systems = [system.clone(), system.clone()];
+    for system in &mut systems {
+        for table in [&mut system.left, &mut system.right] {
+            random.shuffle(&mut table.steps);
+            save_in(table, version);
+        }
+    }
+    systems
+}
+
+/// What the proved maker answers, and the proved judge to a certificate of these ranks.
+fn answers(system: &System, ranks: &[u8]) -> [[u64; 6]; 2] {
+    let (left, right) = (system.left_bytes(), system.right_bytes());
+    let mut output = vec![0; system.layout().length()];
+    let made = stutter::make(&left, &right, &system.relation_bytes(), &mut output);
+    output[..11].copy_from_slice(&system.layout().header());
+    output[11..].copy_from_slice(ranks);
+    [made, stutter::judge(&left, &right, &output)]
+}
+
+/// In version 2 the files of both are equal, and so are the answers with their step
+/// numbers. In version 1 the files differ, and a step has another number.
+#[test]
+fn in_version_2_both_get_the_same_step_numbers() {
+    let mut random = Random::new(51);
+    let mut told_apart = [0, 0];
+    for _ in 0..3_000 {
+        let system = any_system(&mut random, &[1]);
+        let certificate = system.certificate_with_any_ranks(&mut random, 3);
+        let ranks = &certificate[11..];
+
+        let [first, second] = saved_twice(&mut random, &system, 2);
+        assert_eq!(first.left_bytes(), second.left_bytes());
+        assert_eq!(first.right_bytes(), second.right_bytes());
+        assert_eq!(answers(&first, ranks), answers(&second, ranks));
+
+        let [first, second] = saved_twice(&mut random, &system, 1);
+        let (first, second) = (answers(&first, ranks), answers(&second, ranks));
+        for (told_apart, (first, second)) in told_apart.iter_mut().zip(first.iter().zip(&second)) {
+            let names_a_step = [18, 19, 22].contains(&first[0]);
+            if names_a_step && first[..5] == second[..5] && first[5] != second[5] {
+                *told_apart += 1;
+            }
+        }
+    }
+    // The maker and the judge both had such systems.
+    assert!(
+        told_apart.iter().all(|&times| times >= 20),
+        "{told_apart:?}"
+    );
+}
