@@ -36,12 +36,18 @@ module _ (s : List ℕ) where
     pub rising-once : (j : ℕ) → j < m → ¬ EqualsEarlier s j
     rising-once j l (i, a, p, q) = ⊎-elim (λ h. omega arith) (λ h. omega arith) (rising-greater i j a l)
 
-  -- no step stands twice, whichever the version
-  pub steps-once : NoCause (orderCauses 0 s) → (j : ℕ) → j < stepsOf s → ¬ EqualsEarlier s j
-  steps-once none =
-      let parts = append-none (only (versionOf s ≡ 1) (doubledCauses 0 s)) (only (¬ (versionOf s ≡ 1)) (notGreaterCauses 0 s)) none in
-      ⊎-elim
-      (λ v. below-none (stepsOf s) (EqualsEarlier s) (sixNumbers 9 0) (none-only (versionOf s ≡ 1) (doubledCauses 0 s) v (parts .0)))
-      (λ v. rising-once (stepsOf s)
-      (below-none (stepsOf s) (NotGreater s) (sixNumbers 24 0) (none-only (¬ (versionOf s ≡ 1)) (notGreaterCauses 0 s) v (parts .1))))
-      (decides-either (eqb-decides (versionOf s) 1))
+  module _ (none : NoCause (orderCauses 0 s)) where
+    parts : NoCause (only (versionOf s ≡ 1) (doubledCauses 0 s)) × NoCause (only (¬ (versionOf s ≡ 1)) (notGreaterCauses 0 s))
+    parts = append-none (only (versionOf s ≡ 1) (doubledCauses 0 s)) (only (¬ (versionOf s ≡ 1)) (notGreaterCauses 0 s)) none
+
+    -- the steps of a table that is not of version 1 rise
+    pub steps-rise : ¬ (versionOf s ≡ 1) → (j : ℕ) → j < stepsOf s → ¬ NotGreater s j
+    steps-rise v = below-none (stepsOf s) (NotGreater s) (sixNumbers 24 0) (none-only (¬ (versionOf s ≡ 1)) (notGreaterCauses 0 s) v (parts .1))
+
+    -- no step stands twice, whichever the version
+    pub steps-once : (j : ℕ) → j < stepsOf s → ¬ EqualsEarlier s j
+    steps-once =
+        ⊎-elim
+        (λ v. below-none (stepsOf s) (EqualsEarlier s) (sixNumbers 9 0) (none-only (versionOf s ≡ 1) (doubledCauses 0 s) v (parts .0)))
+        (λ v. rising-once (stepsOf s) (steps-rise v))
+        (decides-either (eqb-decides (versionOf s) 1))
