@@ -1,6 +1,6 @@
 -- Laws of the order of steps: rising steps are all different, so that in a table that is read no step stands twice, whichever its version. Assumes nothing.
 use Prim.Native.Nat.{ℕ, zero, suc, _<_}
-use mathlib.Core.Path.{_≡_, subst}
+use mathlib.Core.Path.{subst}
 use mathlib.Core.Logic.{inl, inr, ⊎-elim}
 use mathlib.Core.List.{List}
 use native.Mathlib.Nat.{not-suc-le-zero}
@@ -11,7 +11,7 @@ use Rattle.answers.specs.Causes.{only, NoCause}
 use Rattle.answers.proofs.CauseLaws.{append-none, below-none, none-only}
 use Rattle.answers.proofs.DecideLaws.{decides-stable, decides-either, eqb-decides}
 use Rattle.tables.specs.Table.{versionOf, stepsOf, stepsPart}
-use Rattle.table_reader.specs.TableCauses.{Greater, NotGreater, EqualsEarlier, doubledCauses, notGreaterCauses, orderCauses}
+use Rattle.table_reader.specs.TableCauses.{Greater, NotGreater, EqualsEarlier, InAnyOrder, doubledCauses, notGreaterCauses, orderCauses}
 use Rattle.table_reader.proofs.TestLaws.{greater-decides}
 
 module _ (s : List ℕ) where
@@ -37,17 +37,17 @@ module _ (s : List ℕ) where
     rising-once j l (i, a, p, q) = ⊎-elim (λ h. omega arith) (λ h. omega arith) (rising-greater i j a l)
 
   module _ (none : NoCause (orderCauses 0 s)) where
-    parts : NoCause (only (versionOf s ≡ 1) (doubledCauses 0 s)) × NoCause (only (¬ (versionOf s ≡ 1)) (notGreaterCauses 0 s))
-    parts = append-none (only (versionOf s ≡ 1) (doubledCauses 0 s)) (only (¬ (versionOf s ≡ 1)) (notGreaterCauses 0 s)) none
+    parts : NoCause (only (InAnyOrder s) (doubledCauses 0 s)) × NoCause (only (¬ InAnyOrder s) (notGreaterCauses 0 s))
+    parts = append-none (only (InAnyOrder s) (doubledCauses 0 s)) (only (¬ InAnyOrder s) (notGreaterCauses 0 s)) none
 
-    -- the steps of a table that is not of version 1 rise
-    pub steps-rise : ¬ (versionOf s ≡ 1) → (j : ℕ) → j < stepsOf s → ¬ NotGreater s j
-    steps-rise v = below-none (stepsOf s) (NotGreater s) (sixNumbers 24 0) (none-only (¬ (versionOf s ≡ 1)) (notGreaterCauses 0 s) v (parts .1))
+    -- where the steps may not stand in any order they rise
+    pub steps-rise : ¬ InAnyOrder s → (j : ℕ) → j < stepsOf s → ¬ NotGreater s j
+    steps-rise v = below-none (stepsOf s) (NotGreater s) (sixNumbers 24 0) (none-only (¬ InAnyOrder s) (notGreaterCauses 0 s) v (parts .1))
 
     -- no step stands twice, whichever the version
     pub steps-once : (j : ℕ) → j < stepsOf s → ¬ EqualsEarlier s j
     steps-once =
         ⊎-elim
-        (λ v. below-none (stepsOf s) (EqualsEarlier s) (sixNumbers 9 0) (none-only (versionOf s ≡ 1) (doubledCauses 0 s) v (parts .0)))
+        (λ v. below-none (stepsOf s) (EqualsEarlier s) (sixNumbers 9 0) (none-only (InAnyOrder s) (doubledCauses 0 s) v (parts .0)))
         (λ v. rising-once (stepsOf s) (steps-rise v))
         (decides-either (eqb-decides (versionOf s) 1))

@@ -29,7 +29,7 @@ use Rattle.table_reader.specs.declared.TableRead.{TableRead}
 use Rattle.table_reader.specs.declared.TableRead.the-variants.{Good, Refused}
 use Rattle.table_reader.specs.TableReading.{headOf, readSizes, readHeader, readSteps, withSteps, readTable}
 use Rattle.table_reader.specs.TableVerdicts.{tableVerdict}
-use Rattle.table_reader.specs.TableCauses.{headerCauses, endCauses, doubledCauses, notGreaterCauses, orderCauses, tableCauses, WellFormedTable}
+use Rattle.table_reader.specs.TableCauses.{InAnyOrder, headerCauses, endCauses, doubledCauses, notGreaterCauses, orderCauses, tableCauses, WellFormedTable}
 use Rattle.table_reader.proofs.TestLaws.{magic-decides, version-decides, states-decides, outside-decides, doubled-decides, not-greater-decides}
 
 -- a verdict that goes on is that of a header
@@ -86,6 +86,6 @@ pub table-numbers : (f : ℕ → ℕ → Bool) (file : ℕ) → Allows f file (1
 table-numbers f file (h1, (h2, (h3, (h4, (h5, (h6, (h7, (h8, (h9, (h24, h)))))))))) s =
     numbered-append f (headerCauses file s) (endCauses file s ++ orderCauses file s) (h1, (h2, (h3, (h4, (h5, (h6, (h7, tt)))))))
     (numbered-append f (endCauses file s) (orderCauses file s) (numbered-below f (stepsOf s) _ (λ j. (h8, tt)))
-    (numbered-append f (only (versionOf s ≡ 1) (doubledCauses file s)) (only (¬ (versionOf s ≡ 1)) (notGreaterCauses file s))
-    (numbered-only f (versionOf s ≡ 1) (doubledCauses file s) (numbered-below f (stepsOf s) _ (λ j. (h9, tt))))
-    (numbered-only f (¬ (versionOf s ≡ 1)) (notGreaterCauses file s) (numbered-below f (stepsOf s) _ (λ j. (h24, tt))))))
+    (numbered-append f (only (InAnyOrder s) (doubledCauses file s)) (only (¬ InAnyOrder s) (notGreaterCauses file s))
+    (numbered-only f (InAnyOrder s) (doubledCauses file s) (numbered-below f (stepsOf s) _ (λ j. (h9, tt))))
+    (numbered-only f (¬ InAnyOrder s) (notGreaterCauses file s) (numbered-below f (stepsOf s) _ (λ j. (h24, tt))))))

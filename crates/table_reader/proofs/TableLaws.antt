@@ -20,7 +20,7 @@ use Rattle.tables.specs.declared.Head.{Head}
 use Rattle.table_reader.specs.declared.TableRead.the-variants.{Good}
 use Rattle.tables.specs.Table.{versionOf, statesOf, startOf, stepsOf, initialOf, tableLength, labelsAt, stepsAt, stepsEnd, labelsPart, stepsPart, fromOf, toOf}
 use Rattle.table_reader.specs.TableReading.{readTable}
-use Rattle.table_reader.specs.TableCauses.{EndOutside, EqualsEarlier, headerCauses, endCauses, orderCauses, tableCauses}
+use Rattle.table_reader.specs.TableCauses.{EndOutside, EqualsEarlier, InAnyOrder, headerCauses, endCauses, orderCauses, tableCauses}
 use Rattle.answers.specs.Numbers.{sixNumbers}
 use Rattle.answers.specs.Causes.{NoCause}
 use Rattle.answers.proofs.CauseLaws.{append-none, below-none, none-at}
@@ -148,7 +148,7 @@ to-few : (s : List ℕ) {h : Head} → readTable s ≡ Good h → (j : ℕ) → 
 unfolding systemOf
 to-few s e j l = let a = table-formed s e .to< j l in let b = table-ok s e .states-le in omega arith
 
-numbers-rise : (s : List ℕ) {h : Head} → readTable s ≡ Good h → ¬ (versionOf s ≡ 1) → Rise (stepNumber s) (stepsOf s)
+numbers-rise : (s : List ℕ) {h : Head} → readTable s ≡ Good h → ¬ InAnyOrder s → Rise (stepNumber s) (stepsOf s)
 unfolding stepNumber
 numbers-rise s e v i j a l =
     let b = to-few s e i (omega arith) in
@@ -161,8 +161,8 @@ numbers-within s r f j l =
     let p = f (fromOf (stepsPart s) j) (toOf (stepsPart s) j) (j, l, refl, refl) in
     (p .0, p .1, ap₂ (λ (x y : ℕ). x * 64 + y) (p .2) (p .3))
 
--- two tables that are read, of which neither is of version 1 and each has the other's steps, have each step at the same number
-module _ (s r : List ℕ) {h k : Head} (e : readTable s ≡ Good h) (d : readTable r ≡ Good k) (v : ¬ (versionOf s ≡ 1)) (w : ¬ (versionOf r ≡ 1))
+-- two tables that are read, the steps of both rising, each with the other's steps, have each step at the same number
+module _ (s r : List ℕ) {h k : Head} (e : readTable s ≡ Good h) (d : readTable r ≡ Good k) (v : ¬ InAnyOrder s) (w : ¬ InAnyOrder r)
     (same : (a b : ℕ) → HasStep s a b ↔ HasStep r a b) where
   pub same-steps : stepsOf s ≡ stepsOf r
   same-steps =

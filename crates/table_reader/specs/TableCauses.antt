@@ -65,9 +65,13 @@ doubledCauses file s = joinBelow (stepsOf s) (λ j. EqualsEarlier s j gives sixN
 abbrev pub notGreaterCauses : ℕ → List ℕ → List Cause
 notGreaterCauses file s = joinBelow (stepsOf s) (λ j. NotGreater s j gives sixNumbers 24 file j ∷ [])
 
--- 9 for version 1, and in its place 24 for the others.
+-- The steps may stand in any order.
+abbrev pub InAnyOrder : List ℕ → Type 0
+InAnyOrder s = versionOf s ≡ 1
+
+-- 9 where the steps may stand in any order, and in its place 24 where they rise.
 abbrev pub orderCauses : ℕ → List ℕ → List Cause
-orderCauses file s = only (versionOf s ≡ 1) (doubledCauses file s) ++ only (¬ (versionOf s ≡ 1)) (notGreaterCauses file s)
+orderCauses file s = only (InAnyOrder s) (doubledCauses file s) ++ only (¬ InAnyOrder s) (notGreaterCauses file s)
 
 -- The causes that turn a table away, in document 01's order.
 abbrev pub tableCauses : ℕ → List ℕ → List Cause

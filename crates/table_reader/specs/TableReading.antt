@@ -10,6 +10,7 @@ use Rattle.tables.specs.Table.{
   maxStates,
   maxSteps,
   lastVersion,
+  anyOrder,
   magicFits,
   versionOf,
   statesOf,
@@ -84,7 +85,7 @@ readSteps h steps =
     let twice = firstBelow (h .steps) (doubled steps) in
     let late = firstBelow (h .steps) (notGreater steps) in
     cond (ltb outside (h .steps)) (Refused (StepEnd outside))
-    (cond (eqb (h .version) 1)
+    (cond (eqb (h .version) anyOrder)
     (cond (ltb twice (h .steps)) (Refused (Doubled twice)) (Good h))
     (cond (ltb late (h .steps)) (Refused (NotGreater late)) (Good h)))
 

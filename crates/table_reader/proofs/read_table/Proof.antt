@@ -83,15 +83,17 @@ returns-3 : tie.Need-returns-3
 returns-3 c =
     let f = c .before .before .before .before .before .before .before .first-outside in
     let g = c .before .before .first-doubled in
+    let l = c .before .before .before .before .before .if1 .left in
     sym (by-steps (c .before .before .before .before .before .before .before .before)
-    ∙ steps-doubled _ _ (f .result) (f .ensures) (c .before .before .before .before .before .if1 .left) (c .before .before .before .if2 .taken) (g .result) (g .ensures) (c .if3 .taken))
+    ∙ steps-doubled _ _ (f .result) (f .ensures) l (c .before .before .before .if2 .taken) (g .result) (g .ensures) (c .if3 .taken))
 
 returns-4 : tie.Need-returns-4
 returns-4 c =
     let f = c .before .before .before .before .before .before .before .first-outside in
     let g = c .before .before .first-doubled in
+    let l = c .before .before .before .before .before .if1 .left in
     sym (by-steps (c .before .before .before .before .before .before .before .before)
-    ∙ steps-once _ _ (f .result) (f .ensures) (c .before .before .before .before .before .if1 .left) (c .before .before .before .if2 .taken) (g .result) (g .ensures) (c .if3 .left))
+    ∙ steps-once _ _ (f .result) (f .ensures) l (c .before .before .before .if2 .taken) (g .result) (g .ensures) (c .if3 .left))
 
 first-not-greater-requires : tie.Need-first-not-greater-requires
 first-not-greater-requires c κs = search needs
@@ -100,15 +102,17 @@ returns-5 : tie.Need-returns-5
 returns-5 c =
     let f = c .before .before .before .before .before .before .before .first-outside in
     let g = c .before .before .first-not-greater in
+    let l = c .before .before .before .before .before .if1 .left in
     sym (by-steps (c .before .before .before .before .before .before .before .before)
-    ∙ steps-fall _ _ (f .result) (f .ensures) (c .before .before .before .before .before .if1 .left) (c .before .before .before .if2 .left) (g .result) (g .ensures) (c .if4 .taken))
+    ∙ steps-fall _ _ (f .result) (f .ensures) l (c .before .before .before .if2 .left) (g .result) (g .ensures) (c .if4 .taken))
 
 returns-6 : tie.Need-returns-6
 returns-6 c =
     let f = c .before .before .before .before .before .before .before .first-outside in
     let g = c .before .before .first-not-greater in
+    let l = c .before .before .before .before .before .if1 .left in
     sym (by-steps (c .before .before .before .before .before .before .before .before)
-    ∙ steps-rise _ _ (f .result) (f .ensures) (c .before .before .before .before .before .if1 .left) (c .before .before .before .if2 .left) (g .result) (g .ensures) (c .if4 .left))
+    ∙ steps-rise _ _ (f .result) (f .ensures) l (c .before .before .before .if2 .left) (g .result) (g .ensures) (c .if4 .left))
 
 pub read-table-spec : {M : Type 1} → statement M
 read-table-spec =
