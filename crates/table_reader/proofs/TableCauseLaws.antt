@@ -29,7 +29,16 @@ use Rattle.table_reader.specs.declared.TableRead.{TableRead}
 use Rattle.table_reader.specs.declared.TableRead.the-variants.{Good, Refused}
 use Rattle.table_reader.specs.TableReading.{headOf, readSizes, readHeader, readSteps, withSteps, readTable}
 use Rattle.table_reader.specs.TableVerdicts.{tableVerdict}
-use Rattle.table_reader.specs.TableCauses.{InAnyOrder, headerCauses, endCauses, doubledCauses, notGreaterCauses, orderCauses, tableCauses, WellFormedTable}
+use Rattle.table_reader.specs.TableCauses.{
+  InAnyOrder,
+  headerCauses,
+  endCauses,
+  doubledCauses,
+  notGreaterCauses,
+  orderCauses,
+  tableCauses,
+  WellFormedTable,
+}
 use Rattle.table_reader.proofs.TestLaws.{magic-decides, version-decides, states-decides, outside-decides, doubled-decides, not-greater-decides}
 
 -- a verdict that goes on is that of a header

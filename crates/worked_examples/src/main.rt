@@ -1,4 +1,4 @@
-// Runs the readers, the judge and the maker on the cases of standard input, the edges and examples of document 01, and prints what they say, a line
+// Runs the readers, the judge and the maker on the cases of standard input, edges and examples of documents 01 and 02, and prints what they say, a line
 // each: the case in words, then six numbers. A refusal prints its six numbers, as do the judge and the maker. A table that is read prints 0 0, its
 // states, its steps, its version and its initial state; a certificate or a relation that is read prints 0 0 and its four sizes.
 //
