@@ -7,9 +7,10 @@ use mathlib.Core.List.{List, [], _∷_, _++_, flatMap}
 use lib.Dec.{T}
 use lib.ListN.{getD}
 use Rattle.lists.specs.Lists.{All, joinBelow}
+use Rattle.lists.proofs.BoolLaws.{and-l, and-r}
 use Rattle.lists.proofs.JoinLaws.{all-append, append-all, all-join, join-all, all-flat, all-each}
 use Rattle.answers.specs.Numbers.{blank}
-use Rattle.answers.specs.Causes.{Cause, _gives_, only, renumbered, FirstCause, NoCause, Numbered, Answers}
+use Rattle.answers.specs.Causes.{Cause, _gives_, only, renumbered, FirstCause, NoCause, Numbered, allows, Answers}
 use Rattle.answers.specs.declared.Answer.{Answer}
 
 -- ---- where no cause applies
@@ -35,11 +36,11 @@ none-at (c ∷ cs) n (suc i) h = none-at cs (n .1) i h
 
 -- ---- the first cause
 
--- it is one of the list
-pub first-numbers : (P : Answer → Type 0) (cs : List Cause) (a : Answer) → All (λ c. P (c .numbers)) cs → FirstCause cs a → P a
-first-numbers P [] a n f = absurd f
-first-numbers P (c ∷ cs) a n (inl p) = subst P (sym (p .1)) (n .0)
-first-numbers P (c ∷ cs) a n (inr p) = first-numbers P cs a (n .1) (p .1)
+-- it is one of the list, and its condition holds
+pub first-holds : (P : Answer → Type 0) (cs : List Cause) (a : Answer) → All (λ c. c .condition → P (c .numbers)) cs → FirstCause cs a → P a
+first-holds P [] a n f = absurd f
+first-holds P (c ∷ cs) a n (inl p) = subst P (sym (p .1)) (n .0 (p .0))
+first-holds P (c ∷ cs) a n (inr p) = first-holds P cs a (n .1) (p .1)
 
 pub none-first : (cs : List Cause) (a : Answer) → NoCause cs → FirstCause cs a → ⊥
 none-first [] a n f = f
@@ -80,7 +81,13 @@ module _ (f : ℕ → ℕ → Bool) where
   numbered-flat causes h xs = all-flat (λ c. T (f (c .numbers .code) (c .numbers .file))) causes xs (all-each (λ x. Numbered f (causes x)) h xs)
 
   pub numbered-first : (cs : List Cause) (a : Answer) → Numbered f cs → FirstCause cs a → T (f (a .code) (a .file))
-  numbered-first = first-numbers (λ a. T (f (a .code) (a .file)))
+  numbered-first [] a n g = absurd g
+  numbered-first (c ∷ cs) a n (inl p) = subst (λ (x : Answer). T (f (x .code) (x .file))) (sym (p .1)) (n .0)
+  numbered-first (c ∷ cs) a n (inr p) = numbered-first cs a (n .1) (p .1)
+
+  pub allowed : (file : ℕ) (codes : List ℕ) → T (allows f file codes) → All (λ code. T (f code file)) codes
+  allowed file [] h = tt
+  allowed file (code ∷ codes) h = (and-l (f code file) (allows f file codes) h, allowed file codes (and-r (f code file) (allows f file codes) h))
 
 -- ---- the answer
 

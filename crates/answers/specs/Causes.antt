@@ -4,7 +4,7 @@
 use Prim.Native.Nat.{ℕ}
 use mathlib.Core.Path.{_≡_}
 use mathlib.Core.Logic.{_⊎_}
-use mathlib.Core.Bool.{Bool}
+use mathlib.Core.Bool.{Bool, true, _&&_}
 use mathlib.Core.List.{List, [], _∷_, map}
 use lib.Dec.{T}
 use Rattle.lists.specs.Lists.{All}
@@ -39,9 +39,10 @@ NoCause = All (λ c. ¬ c .condition)
 abbrev pub Numbered : (ℕ → ℕ → Bool) → List Cause → Type 0
 Numbered f = All (λ c. T (f (c .numbers .code) (c .numbers .file)))
 
--- The test lets these numbers pass with this file.
-abbrev pub Allows : (ℕ → ℕ → Bool) → ℕ → List ℕ → Type 0
-Allows f file = All (λ code. T (f code file))
+-- The test lets each of these numbers pass with this file.
+abbrev pub allows : (ℕ → ℕ → Bool) → ℕ → List ℕ → Bool
+allows f file [] = true
+allows f file (code ∷ codes) = f code file && allows f file codes
 
 -- The answer is that of the first cause that applies, or none does and it is a success.
 abbrev pub Answers : List Cause → (Answer → Type 0) → Answer → Type 0

@@ -8,9 +8,11 @@ use native.Mathlib.Omega.{arith}
 use lib.ListN.{length}
 use Rattle.lists.specs.Numbers.{bigEndian}
 use Rattle.answers.specs.Numbers.{sixNumbers}
-use Rattle.answers.specs.Causes.{NoCause, Numbered, Allows}
+use lib.Dec.{T}
+use Rattle.lists.specs.Lists.{All}
+use Rattle.answers.specs.Causes.{NoCause, Numbered, allows}
 use Rattle.answers.specs.Verdicts.{Verdict, goOn}
-use Rattle.answers.proofs.CauseLaws.{numbered-below}
+use Rattle.answers.proofs.CauseLaws.{numbered-below, allowed}
 use Rattle.answers.proofs.DecideLaws.{ltb-decides, eqb-decides, not-decides}
 use Rattle.answers.proofs.VerdictLaws.{Decided, decided-none, decided-end, decided-test, decided-search, none-on, on-none}
 use Rattle.table_reader.proofs.TestLaws.{magic-decides}
@@ -81,8 +83,11 @@ module _ (file : ℕ) (z : Sizes) (r : List ℕ) where
 -- ---- the numbers are 10 to 15, and 20 and 15, with the file given
 
 module _ (f : ℕ → ℕ → Bool) (file : ℕ) where
-  pub certificate-numbers : Allows f file (10 ∷ 11 ∷ 12 ∷ 13 ∷ 14 ∷ 15 ∷ []) → (z : Sizes) (c : List ℕ) → Numbered f (certificateCauses file z c)
-  certificate-numbers (h10, (h11, (h12, (h13, (h14, (h15, h)))))) z c = (h10, (h11, (h12, (h13, (h14, numbered-below f (z .n1) _ (λ s. (h15, tt)))))))
+  pub certificate-numbers : T (allows f file (10 ∷ 11 ∷ 12 ∷ 13 ∷ 14 ∷ 15 ∷ [])) → (z : Sizes) (c : List ℕ) → Numbered f (certificateCauses file z c)
+  certificate-numbers h z c = go (allowed f file (10 ∷ 11 ∷ 12 ∷ 13 ∷ 14 ∷ 15 ∷ []) h)
+    where
+      go : All (λ code. T (f code file)) (10 ∷ 11 ∷ 12 ∷ 13 ∷ 14 ∷ 15 ∷ []) → Numbered f (certificateCauses file z c)
+      go (h10, (h11, (h12, (h13, (h14, (h15, none)))))) = (h10, (h11, (h12, (h13, (h14, numbered-below f (z .n1) _ (λ s. (h15, tt)))))))
 
-  pub relation-numbers : Allows f file (20 ∷ 15 ∷ []) → (z : Sizes) (r : List ℕ) → Numbered f (relationCauses file z r)
-  relation-numbers (h20, (h15, h)) z r = (h20, numbered-below f (z .n1) _ (λ s. (h15, tt)))
+  pub relation-numbers : T (allows f file (20 ∷ 15 ∷ [])) → (z : Sizes) (r : List ℕ) → Numbered f (relationCauses file z r)
+  relation-numbers h z r = let each = allowed f file (20 ∷ 15 ∷ []) h in (each .0, numbered-below f (z .n1) _ (λ s. (each .1 .0, tt)))

@@ -52,13 +52,11 @@ module _ (left right c : List ℕ) where
   -- 1 to 9 and 24 with the file 0 or 1, and 10 to 19 with the file 2
   pub judge-numbers : Numbered judgeNumber (judgeCauses left right c)
   judge-numbers =
-      numbered-append judgeNumber (tableCauses 0 left) afterLeft
-      (table-numbers judgeNumber 0 (tt, (tt, (tt, (tt, (tt, (tt, (tt, (tt, (tt, (tt, tt)))))))))) left)
-      (numbered-append judgeNumber (tableCauses 1 right) afterRight
-      (table-numbers judgeNumber 1 (tt, (tt, (tt, (tt, (tt, (tt, (tt, (tt, (tt, (tt, tt)))))))))) right)
+      numbered-append judgeNumber (tableCauses 0 left) afterLeft (table-numbers judgeNumber 0 tt left)
+      (numbered-append judgeNumber (tableCauses 1 right) afterRight (table-numbers judgeNumber 1 tt right)
       (numbered-append judgeNumber (certificateCauses 2 (sizesOf left right) c) afterCertificate
-      (certificate-numbers judgeNumber 2 (tt, (tt, (tt, (tt, (tt, (tt, tt)))))) (sizesOf left right) c) (
+      (certificate-numbers judgeNumber 2 tt (sizesOf left right) c) (
         tt,
         numbered-flat judgeNumber (checkCauses (certifiedView left right c) (certifiedRanks left right c))
-            (check-numbers judgeNumber (tt, (tt, (tt, tt))) (certifiedView left right c) (certifiedRanks left right c)) (checks (certifiedView left right c)),
+            (check-numbers judgeNumber tt (certifiedView left right c) (certifiedRanks left right c)) (checks (certifiedView left right c)),
       )))

@@ -1,5 +1,5 @@
--- The judge's answer for any three byte strings (document 01, The answer): those of the left table and of the right, 10 to 15, then 16, then
--- labels and obligations in judging order; the first cause that applies, or the counts.
+-- The judge's answer for any three byte strings (document 01, The answer): the first cause that applies of the left table's, the right
+-- table's, 10 to 15, 16, and then labels and obligations in judging order; or the counts.
 use Prim.Native.Nat.{ℕ}
 use mathlib.Core.Path.{_≡_}
 use mathlib.Core.List.{List}

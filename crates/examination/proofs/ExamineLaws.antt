@@ -17,9 +17,10 @@ use Rattle.bisimulation.specs.Maker.{matched, chainLength, noneUnmatched, noneE
 use Rattle.bisimulation.proofs.ClauseLaws.{flip-formed, pairs-e, pairs-i, steps-e, steps-i, labels-e, labels-i, initial-e, initial-i}
 use Rattle.bisimulation.proofs.Equivalences.{one-initial}
 use Rattle.bisimulation.proofs.RunLaws.{matched-iff, chain-some, chain-bound, chain-most}
-use Rattle.answers.specs.Causes.{Cause, NoCause, Numbered, Allows}
+use Rattle.lists.specs.Lists.{All}
+use Rattle.answers.specs.Causes.{Cause, NoCause, Numbered, allows}
 use Rattle.answers.specs.Verdicts.{refusedWith, passed, firstIn}
-use Rattle.answers.proofs.CauseLaws.{none-append, append-none, numbered-append, numbered-below, numbered-flat}
+use Rattle.answers.proofs.CauseLaws.{none-append, append-none, numbered-append, numbered-below, numbered-flat, allowed}
 use Rattle.answers.proofs.DecideLaws.{Decides, decides-as, decides-stable, test-decides, eqb-decides, not-decides, and-decides, or-decides}
 use Rattle.answers.proofs.VerdictLaws.{Decided, Anything, decided-none, decided-test, decided-unless, decided-then, decided-along, decided-below}
 use Rattle.answers.proofs.VerdictLaws.{none-on, on-none}
@@ -183,17 +184,20 @@ module _ (v : View) (w : WellFormed v) (start start′ : ℕ) (f : (s : ℕ) →
 
 -- ---- the numbers are 16, 17, 22 and 23, with the file 2
 
-module _ (f : ℕ → ℕ → Bool) (allows : Allows f 2 (16 ∷ 17 ∷ 22 ∷ 23 ∷ [])) where
+module _ (f : ℕ → ℕ → Bool) (h : T (allows f 2 (16 ∷ 17 ∷ 22 ∷ 23 ∷ []))) where
+  each : All (λ code. T (f code 2)) (16 ∷ 17 ∷ 22 ∷ 23 ∷ [])
+  each = allowed f 2 (16 ∷ 17 ∷ 22 ∷ 23 ∷ []) h
+
   check-numbers : (v : View) (c : Check) → Numbered f (makerCheckCauses v c)
-  check-numbers v (labelsOf s t) = (allows .1 .0, tt)
-  check-numbers v (leftStep s t j) = (allows .1 .1 .0, tt)
-  check-numbers v (rightStep s t j) = (allows .1 .1 .0, tt)
+  check-numbers v (labelsOf s t) = (each .1 .0, tt)
+  check-numbers v (leftStep s t j) = (each .1 .1 .0, tt)
+  check-numbers v (rightStep s t j) = (each .1 .1 .0, tt)
 
   chain-numbers : (v : View) (side : ℕ) → Numbered f (chainCauses v side)
-  chain-numbers v side = numbered-below f (v .other .states) _ (λ b. numbered-below f (v .own .states) _ (λ c. (allows .1 .1 .1 .0, tt)))
+  chain-numbers v side = numbered-below f (v .other .states) _ (λ b. numbered-below f (v .own .states) _ (λ c. (each .1 .1 .1 .0, tt)))
 
   pub examination-numbers : (v : View) (start start′ : ℕ) → Numbered f (examinationCauses v start start′)
   examination-numbers v start start′ =
-      numbered-append f (startsCauses v start start′) (afterStarts v) (allows .0, tt)
+      numbered-append f (startsCauses v start start′) (afterStarts v) (each .0, tt)
       (numbered-append f (flatMap (makerCheckCauses v) (checks v)) (afterChecks v) (numbered-flat f (makerCheckCauses v) (check-numbers v) (checks v))
       (numbered-append f (chainCauses v 0) (chainCauses (flip v) 1) (chain-numbers v 0) (chain-numbers (flip v) 1)))

@@ -57,7 +57,8 @@ pub record Spans (z : Sizes) (d : List ℕ) (r : Runs) (end : ℕ) : Type 0 wher
   pub cr-run : Span (r .cr) end (z .m2 * z .n1) d
 
 -- they follow each other in an output that has room
-pub spans : (z : Sizes) (d : List ℕ) {r : Runs} {end : ℕ} → r ≡ runsOf z → end ≡ certificateLength z → certificateLength z ≤ length d → Spans z d r end
+pub spans : (z : Sizes) (d : List ℕ) {r : Runs} {end : ℕ} → r ≡ runsOf z → end ≡ certificateLength z → certificateLength z ≤ length d
+    → Spans z d r end
 spans z d {r} {end} p q room =
     let f = runs-follow z in
     let a : r .al ≡ alAt z = ap (λ (x : Runs). x .al) p in

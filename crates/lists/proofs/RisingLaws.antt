@@ -13,9 +13,10 @@ Rise f m = (i j : ℕ) → i < j → j < m → f i < f j
 abbrev pub Within : (ℕ → ℕ) → ℕ → (ℕ → ℕ) → ℕ → Type 0
 Within f m g k = (j : ℕ) → j < m → (i : ℕ) × (i < k) × (g i ≡ f j)
 
--- what stands at place j of the one stands at place j of the other or after it, where the two agree before j
-later : (f g : ℕ → ℕ) (m k j : ℕ) → Rise f m → Rise g k → Within f m g k → ((i : ℕ) → i < j → i < m → i < k → f i ≡ g i) → j < m → j < k → g j ≤ f j
-later f g m k j r q w same a b =
+-- where two agree before place j, the first is not lower than the second there: what it has stands in the second at place j or later
+not-lower : (f g : ℕ → ℕ) (m k j : ℕ) → Rise f m → Rise g k → Within f m g k → ((i : ℕ) → i < j → i < m → i < k → f i ≡ g i)
+    → j < m → j < k → g j ≤ f j
+not-lower f g m k j r q w same a b =
     let p = w j a in
     let e = p .2 in
     elim (decLt (p .0) j) [
@@ -31,8 +32,8 @@ module _ (f g : ℕ → ℕ) (m k : ℕ) (r : Rise f m) (q : Rise g k) (w : With
   agree : (b j : ℕ) → j < b → j < m → j < k → f j ≡ g j
   agree zero j l a c = absurd (not-suc-le-zero l)
   agree (suc b) j l a c =
-      let x = later f g m k j r q w (λ i h. agree b i (omega arith)) a c in
-      let y = later g f k m j q r v (λ i h d e. sym (agree b i (omega arith) e d)) c a in
+      let x = not-lower f g m k j r q w (λ i h. agree b i (omega arith)) a c in
+      let y = not-lower g f k m j q r v (λ i h d e. sym (agree b i (omega arith) e d)) c a in
       omega arith
 
   -- and the first is not the shorter one
@@ -44,12 +45,12 @@ module _ (f g : ℕ → ℕ) (m k : ℕ) (r : Rise f m) (q : Rise g k) (w : With
       let y = q (p .0) m (p .1) l in
       omega arith
 
-pub same-count : (f g : ℕ → ℕ) (m k : ℕ) → Rise f m → Rise g k → Within f m g k → Within g k f m → m ≡ k
-same-count f g m k r q w v =
+-- two rising lists with the same members are equally long, and agree at every place
+pub rising-same : (f g : ℕ → ℕ) (m k : ℕ) → Rise f m → Rise g k → Within f m g k → Within g k f m → (m ≡ k) × ((j : ℕ) → j < m → f j ≡ g j)
+rising-same f g m k r q w v =
+    let e : m ≡ k =
     elim (decLt m k) [
       | yes l ↦ absurd (not-shorter f g m k r q w v l)
       | no l ↦ elim (decLt k m) [ yes h ↦ absurd (not-shorter g f k m q r v w h) | no h ↦ omega arith ]
-    ]
-
-pub same-at : (f g : ℕ → ℕ) (m k : ℕ) → Rise f m → Rise g k → Within f m g k → Within g k f m → (j : ℕ) → j < m → f j ≡ g j
-same-at f g m k r q w v j l = agree f g m k r q w v m j l l (let e = same-count f g m k r q w v in omega arith)
+    ] in
+    (e, λ j l. agree f g m k r q w v m j l l (omega arith))

@@ -9,7 +9,8 @@ use lib.Dec.{T, eqb, eqb→eq}
 use Rattle.lists.specs.Lists.{All}
 use Rattle.lists.proofs.BoolLaws.{eq→eqb}
 use Rattle.lists.proofs.JoinLaws.{all-append, append-all, all-join, join-all, all-when, when-all, all-map, map-all, all-flat, flat-all}
-use Rattle.answers.specs.Causes.{NoCause, Numbered, Allows}
+use Rattle.answers.specs.Causes.{NoCause, Numbered, allows}
+use Rattle.answers.proofs.CauseLaws.{allowed}
 use Rattle.answers.specs.Verdicts.{goOn, refusedWith}
 use Rattle.answers.proofs.DecideLaws.{Decides, decides-as, decides-stable, test-decides, eqb-decides, not-decides, and-decides, or-decides, any-decides}
 use Rattle.answers.proofs.VerdictLaws.{Decided, Anything, decided-none, decided-as, decided-unless}
@@ -180,7 +181,11 @@ module _ (v : View) (w : WellFormed v) (r : Ranks) where
 
 -- ---- the numbers are 17 to 19, with the file 2
 
-pub check-numbers : (f : ℕ → ℕ → Bool) → Allows f 2 (17 ∷ 18 ∷ 19 ∷ []) → (v : View) (r : Ranks) (c : Check) → Numbered f (checkCauses v r c)
-check-numbers f (h17, (h18, (h19, h))) v r (labelsOf s t) = (h17, tt)
-check-numbers f (h17, (h18, (h19, h))) v r (leftStep s t j) = (h18, (h19, tt))
-check-numbers f (h17, (h18, (h19, h))) v r (rightStep s t j) = (h18, (h19, tt))
+module _ (f : ℕ → ℕ → Bool) (h : T (allows f 2 (17 ∷ 18 ∷ 19 ∷ []))) where
+  each : All (λ code. T (f code 2)) (17 ∷ 18 ∷ 19 ∷ [])
+  each = allowed f 2 (17 ∷ 18 ∷ 19 ∷ []) h
+
+  pub check-numbers : (v : View) (r : Ranks) (c : Check) → Numbered f (checkCauses v r c)
+  check-numbers v r (labelsOf s t) = (each .0, tt)
+  check-numbers v r (leftStep s t j) = each .1
+  check-numbers v r (rightStep s t j) = each .1

@@ -77,11 +77,9 @@ module _ (left right relation output : List ℕ) where
   -- 1 to 9 and 24 with the file 0 or 1; 15 to 17, 20, 22 and 23 with the file 2; 21 with the file 3
   pub maker-numbers : Numbered makerNumber (makerCauses left right relation output)
   maker-numbers =
-      numbered-append makerNumber (tableCauses 0 left) afterLeft
-      (table-numbers makerNumber 0 (tt, (tt, (tt, (tt, (tt, (tt, (tt, (tt, (tt, (tt, tt)))))))))) left)
-      (numbered-append makerNumber (tableCauses 1 right) afterRight
-      (table-numbers makerNumber 1 (tt, (tt, (tt, (tt, (tt, (tt, (tt, (tt, (tt, (tt, tt)))))))))) right)
+      numbered-append makerNumber (tableCauses 0 left) afterLeft (table-numbers makerNumber 0 tt left)
+      (numbered-append makerNumber (tableCauses 1 right) afterRight (table-numbers makerNumber 1 tt right)
       (numbered-append makerNumber (relationCauses 2 (sizesOf left right) relation) afterRelation
-      (relation-numbers makerNumber 2 (tt, (tt, tt)) (sizesOf left right) relation)
+      (relation-numbers makerNumber 2 tt (sizesOf left right) relation)
       (numbered-append makerNumber (roomCauses (certificateLength (sizesOf left right)) output) afterRoom (tt, tt)
-      (examination-numbers makerNumber (tt, (tt, (tt, (tt, tt)))) (viewOf left right relation) (startOf left) (startOf right)))))
+      (examination-numbers makerNumber tt (viewOf left right relation) (startOf left) (startOf right)))))

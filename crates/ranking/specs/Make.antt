@@ -1,5 +1,5 @@
--- The maker's answer and output for any byte strings and any output (document 01, The maker): those of the left table and of the right, then 20, 15, 21,
--- 16, then 17 and 22 in judging order, then 23; the first cause that applies, or the length L. Where it succeeds the file stands at the front of the
+-- The maker's answer and output for any byte strings and any output (document 01, The maker): the first cause that applies of the left table's, the
+-- right table's, 20, 15, 21, 16, 17 and 22 in judging order, and 23; or the length L. Where it succeeds the file stands at the front of the
 -- output and the bytes after L stay; otherwise the output is as it was.
 use Prim.Native.Nat.{ℕ}
 use mathlib.Core.Bool.{cond}

@@ -4,3 +4,4 @@ pub mod TestLaws
 pub mod OrderLaws
 pub mod TableCauseLaws
 pub mod TableLaws
+pub mod StepNumberLaws

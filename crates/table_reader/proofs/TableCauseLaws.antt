@@ -1,15 +1,19 @@
 -- The table reader's part of demand 1: a table is refused with the six numbers of the first cause that applies to its bytes, and read where none does.
 -- The reader is a chain of tests in the order of the causes, and each test decides its cause. Assumes nothing.
-use Prim.Native.Nat.{ℕ}
+use Prim.Native.Nat.{ℕ, _<_}
 use mathlib.Core.Path.{_≡_, refl, ap, _∙_}
 use mathlib.Core.Bool.{Bool}
 use mathlib.Core.List.{List, [], _∷_, _++_}
 use native.Mathlib.Omega.{arith}
+use lib.Dec.{T, lit<}
 use lib.ListN.{length}
+use Rattle.lists.specs.Lists.{All}
+use Rattle.lists.proofs.JoinLaws.{all-append, all-join, all-map}
+use Rattle.answers.specs.declared.Answer.{Answer}
 use Rattle.answers.specs.Numbers.{sixNumbers}
-use Rattle.answers.specs.Causes.{Cause, only, NoCause, Numbered, Allows}
+use Rattle.answers.specs.Causes.{Cause, only, FirstCause, NoCause, Numbered, allows}
 use Rattle.answers.specs.Verdicts.{Verdict, goOn, _andThen_}
-use Rattle.answers.proofs.CauseLaws.{numbered-append, numbered-below, numbered-only}
+use Rattle.answers.proofs.CauseLaws.{first-holds, numbered-append, numbered-below, numbered-only, allowed}
 use Rattle.answers.proofs.DecideLaws.{ltb-decides, leb-decides, eqb-decides, not-decides}
 use Rattle.answers.proofs.VerdictLaws.{
   Decided,
@@ -90,11 +94,37 @@ after-table file s d = decided-then (tableVerdict file (readTable s)) (table-dec
 
 -- ---- the numbers are 1 to 9 and 24, with the file given
 
-pub table-numbers : (f : ℕ → ℕ → Bool) (file : ℕ) → Allows f file (1 ∷ 2 ∷ 3 ∷ 4 ∷ 5 ∷ 6 ∷ 7 ∷ 8 ∷ 9 ∷ 24 ∷ []) → (s : List ℕ)
+pub table-numbers : (f : ℕ → ℕ → Bool) (file : ℕ) → T (allows f file (1 ∷ 2 ∷ 3 ∷ 4 ∷ 5 ∷ 6 ∷ 7 ∷ 8 ∷ 9 ∷ 24 ∷ [])) → (s : List ℕ)
     → Numbered f (tableCauses file s)
-table-numbers f file (h1, (h2, (h3, (h4, (h5, (h6, (h7, (h8, (h9, (h24, h)))))))))) s =
-    numbered-append f (headerCauses file s) (endCauses file s ++ orderCauses file s) (h1, (h2, (h3, (h4, (h5, (h6, (h7, tt)))))))
-    (numbered-append f (endCauses file s) (orderCauses file s) (numbered-below f (stepsOf s) _ (λ j. (h8, tt)))
-    (numbered-append f (only (InAnyOrder s) (doubledCauses file s)) (only (¬ InAnyOrder s) (notGreaterCauses file s))
-    (numbered-only f (InAnyOrder s) (doubledCauses file s) (numbered-below f (stepsOf s) _ (λ j. (h9, tt))))
-    (numbered-only f (¬ InAnyOrder s) (notGreaterCauses file s) (numbered-below f (stepsOf s) _ (λ j. (h24, tt))))))
+table-numbers f file h s = go (allowed f file (1 ∷ 2 ∷ 3 ∷ 4 ∷ 5 ∷ 6 ∷ 7 ∷ 8 ∷ 9 ∷ 24 ∷ []) h)
+  where
+    go : All (λ code. T (f code file)) (1 ∷ 2 ∷ 3 ∷ 4 ∷ 5 ∷ 6 ∷ 7 ∷ 8 ∷ 9 ∷ 24 ∷ []) → Numbered f (tableCauses file s)
+    go (h1, (h2, (h3, (h4, (h5, (h6, (h7, (h8, (h9, (h24, none)))))))))) =
+        numbered-append f (headerCauses file s) (endCauses file s ++ orderCauses file s) (h1, (h2, (h3, (h4, (h5, (h6, (h7, tt)))))))
+        (numbered-append f (endCauses file s) (orderCauses file s) (numbered-below f (stepsOf s) _ (λ j. (h8, tt)))
+        (numbered-append f (only (InAnyOrder s) (doubledCauses file s)) (only (¬ InAnyOrder s) (notGreaterCauses file s))
+        (numbered-only f (InAnyOrder s) (doubledCauses file s) (numbered-below f (stepsOf s) _ (λ j. (h9, tt))))
+        (numbered-only f (¬ InAnyOrder s) (notGreaterCauses file s) (numbered-below f (stepsOf s) _ (λ j. (h24, tt))))))
+
+-- ---- 9 is answered only where the steps may stand in any order, and 24 only where they rise
+
+module _ (file : ℕ) (s : List ℕ) where
+  abbrev Told : Answer → Type 0
+  Told a = (a .code ≡ 9 → InAnyOrder s) × (a .code ≡ 24 → ¬ InAnyOrder s)
+
+  abbrev Tells : Cause → Type 0
+  Tells c = c .condition → Told (c .numbers)
+
+  below-9 : {C : Type 0} (code : ℕ) → code < 9 → C → (code ≡ 9 → InAnyOrder s) × (code ≡ 24 → ¬ InAnyOrder s)
+  below-9 code l p = (λ e. absurd (omega arith), λ e. absurd (omega arith))
+
+  pub order-told : (a : Answer) → FirstCause (tableCauses file s) a → (a .code ≡ 9 → InAnyOrder s) × (a .code ≡ 24 → ¬ InAnyOrder s)
+  order-told a =
+      first-holds Told (tableCauses file s) a
+      (all-append Tells (headerCauses file s) (endCauses file s ++ orderCauses file s)
+      (below-9 1 (lit< tt), (below-9 2 (lit< tt), (below-9 3 (lit< tt), (below-9 4 (lit< tt), (below-9 5 (lit< tt), (below-9 6 (lit< tt), (below-9 7 (lit< tt), tt)))))))
+      (all-append Tells (endCauses file s) (orderCauses file s)
+      (all-join Tells (stepsOf s) _ (λ j l. (below-9 8 (lit< tt), tt)))
+      (all-append Tells (only (InAnyOrder s) (doubledCauses file s)) (only (¬ InAnyOrder s) (notGreaterCauses file s))
+      (all-map Tells _ (doubledCauses file s) (all-join _ (stepsOf s) _ (λ j l. (λ p. (λ e. p .0, λ e. absurd (omega arith)), tt))))
+      (all-map Tells _ (notGreaterCauses file s) (all-join _ (stepsOf s) _ (λ j l. (λ p. (λ e. absurd (omega arith), λ e. p .0), tt)))))))

@@ -1,8 +1,8 @@
 -- What a good read says: the header's fields and limits (`HeadOk`), the lengths of the two parts, that the system that the bytes give is well
 -- formed (`TableFormed`), and which state the start is. All of it follows from the fact that no cause for turning the table away applies. Assumes nothing.
 use Prim.Native.Nat.{ℕ, _+_, _*_, _≤_, _<_}
-use mathlib.Core.Path.{_≡_, refl, sym, ap, ap₂, _∙_, subst}
-use mathlib.Core.Logic.{_↔_, inl, inr, ⊎-elim}
+use mathlib.Core.Path.{_≡_, sym, ap, _∙_, subst}
+use mathlib.Core.Logic.{inl, inr}
 use mathlib.Core.Bool.{Bool, _||_, or-false}
 use mathlib.Core.List.{List, _++_}
 use native.Mathlib.Omega.{arith}
@@ -11,23 +11,22 @@ use lib.Dec.{T, eqb, eqb-refl, eqb→eq}
 use lib.ListN.{length}
 use Rattle.lists.specs.Below.{firstBelow}
 use Rattle.lists.proofs.BelowLaws.{first-is}
-use Rattle.lists.proofs.RisingLaws.{Rise, Within, same-count, same-at}
 use Rattle.lists.proofs.FillLaws.{part-length}
 use Rattle.words.specs.Bits.{hasBit, firstBit}
 use Rattle.words.proofs.BitLaws.{has-add-below, has-empty}
 use Rattle.bisimulation.specs.Systems.{NoTwice}
 use Rattle.tables.specs.declared.Head.{Head}
 use Rattle.table_reader.specs.declared.TableRead.the-variants.{Good}
-use Rattle.tables.specs.Table.{versionOf, statesOf, startOf, stepsOf, initialOf, tableLength, labelsAt, stepsAt, stepsEnd, labelsPart, stepsPart, fromOf, toOf}
+use Rattle.tables.specs.Table.{versionOf, statesOf, startOf, stepsOf, initialOf, tableLength, labelsAt, stepsAt, stepsEnd, labelsPart, stepsPart}
 use Rattle.table_reader.specs.TableReading.{readTable}
-use Rattle.table_reader.specs.TableCauses.{EndOutside, EqualsEarlier, InAnyOrder, headerCauses, endCauses, orderCauses, tableCauses}
+use Rattle.table_reader.specs.TableCauses.{EndOutside, EqualsEarlier, headerCauses, endCauses, orderCauses, tableCauses}
 use Rattle.answers.specs.Numbers.{sixNumbers}
 use Rattle.answers.specs.Causes.{NoCause}
 use Rattle.answers.proofs.CauseLaws.{append-none, below-none, none-at}
 use Rattle.tables.specs.Model.{systemOf}
 use Rattle.answers.proofs.DecideLaws.{decides-stable, eqb-decides}
 use Rattle.table_reader.proofs.TestLaws.{states-decides}
-use Rattle.table_reader.proofs.OrderLaws.{rising-greater, steps-rise, steps-once}
+use Rattle.table_reader.proofs.OrderLaws.{steps-once}
 use Rattle.table_reader.proofs.TableCauseLaws.{good-none}
 
 -- ---- the header
@@ -77,7 +76,7 @@ module _ (s : List ℕ) {h : Head} (good : readTable s ≡ Good h) where
 -- ---- the system
 
 -- no cause of the steps applies
-steps-none : (s : List ℕ) {h : Head} → readTable s ≡ Good h → NoCause (endCauses 0 s) × NoCause (orderCauses 0 s)
+pub steps-none : (s : List ℕ) {h : Head} → readTable s ≡ Good h → NoCause (endCauses 0 s) × NoCause (orderCauses 0 s)
 steps-none s e = append-none (endCauses 0 s) (orderCauses 0 s) (append-none (headerCauses 0 s) (endCauses 0 s ++ orderCauses 0 s) (good-none 0 s e .1) .1)
 
 -- The system is well formed, and has the start as its one initial state.
@@ -133,48 +132,3 @@ start-first s e =
     ap (λ (w : ℕ). firstBelow 64 (hasBit w)) (o .initial-is)
     ∙ first-is 64 (hasBit (initialOf s)) (startOf s) (omega arith) (f .initial-some)
     (λ k b q. let z = eqb→eq k (startOf s) (subst T (f .one-initial k) q) in omega arith)
-
--- ---- the same steps have the same numbers
-
--- The table has a step from a to b.
-abbrev pub HasStep : List ℕ → (a b : ℕ) → Type 0
-HasStep s a b = (j : ℕ) × (j < stepsOf s) × (fromOf (stepsPart s) j ≡ a) × (toOf (stepsPart s) j ≡ b)
-
--- a step as one number
-stepNumber : List ℕ → ℕ → ℕ
-stepNumber s j = fromOf (stepsPart s) j * 64 + toOf (stepsPart s) j
-
-to-few : (s : List ℕ) {h : Head} → readTable s ≡ Good h → (j : ℕ) → j < stepsOf s → toOf (stepsPart s) j < 64
-unfolding systemOf
-to-few s e j l = let a = table-formed s e .to< j l in let b = table-ok s e .states-le in omega arith
-
-numbers-rise : (s : List ℕ) {h : Head} → readTable s ≡ Good h → ¬ InAnyOrder s → Rise (stepNumber s) (stepsOf s)
-unfolding stepNumber
-numbers-rise s e v i j a l =
-    let b = to-few s e i (omega arith) in
-    let c = to-few s e j l in
-    ⊎-elim (λ g. omega arith) (λ g. omega arith) (rising-greater s (stepsOf s) (steps-rise s (steps-none s e .1) v) i j a l)
-
-numbers-within : (s r : List ℕ) → ((a b : ℕ) → HasStep s a b → HasStep r a b) → Within (stepNumber s) (stepsOf s) (stepNumber r) (stepsOf r)
-unfolding stepNumber
-numbers-within s r f j l =
-    let p = f (fromOf (stepsPart s) j) (toOf (stepsPart s) j) (j, l, refl, refl) in
-    (p .0, p .1, ap₂ (λ (x y : ℕ). x * 64 + y) (p .2) (p .3))
-
--- two tables that are read, the steps of both rising, each with the other's steps, have each step at the same number
-module _ (s r : List ℕ) {h k : Head} (e : readTable s ≡ Good h) (d : readTable r ≡ Good k) (v : ¬ InAnyOrder s) (w : ¬ InAnyOrder r)
-    (same : (a b : ℕ) → HasStep s a b ↔ HasStep r a b) where
-  pub same-steps : stepsOf s ≡ stepsOf r
-  same-steps =
-      same-count (stepNumber s) (stepNumber r) (stepsOf s) (stepsOf r) (numbers-rise s e v) (numbers-rise r d w)
-      (numbers-within s r (λ a b. same a b .0)) (numbers-within r s (λ a b. same a b .1))
-
-  pub same-numbers : (j : ℕ) → j < stepsOf s
-      → (fromOf (stepsPart s) j ≡ fromOf (stepsPart r) j) × (toOf (stepsPart s) j ≡ toOf (stepsPart r) j)
-  unfolding stepNumber
-  same-numbers j l =
-      let n = same-at (stepNumber s) (stepNumber r) (stepsOf s) (stepsOf r) (numbers-rise s e v) (numbers-rise r d w)
-      (numbers-within s r (λ a b. same a b .0)) (numbers-within r s (λ a b. same a b .1)) j l in
-      let a = to-few s e j l in
-      let b = to-few r d j (let c = same-steps in omega arith) in
-      (omega arith, omega arith)

@@ -73,7 +73,7 @@ InAnyOrder s = versionOf s ≡ 1
 abbrev pub orderCauses : ℕ → List ℕ → List Cause
 orderCauses file s = only (InAnyOrder s) (doubledCauses file s) ++ only (¬ InAnyOrder s) (notGreaterCauses file s)
 
--- The causes that turn a table away, in document 01's order.
+-- The causes that turn a table away, in the documents' order.
 abbrev pub tableCauses : ℕ → List ℕ → List Cause
 tableCauses file s = headerCauses file s ++ (endCauses file s ++ orderCauses file s)
 

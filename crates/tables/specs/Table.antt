@@ -22,10 +22,11 @@ maxSteps = 256
 unfoldable pub magicFits : ℕ → List ℕ → Bool
 magicFits third s = eqb (byteAt s 0) 0x54 && eqb (byteAt s 1) 0x50 && eqb (byteAt s 2) third
 
--- The versions are 1 and 2. The steps of version 1 may stand in any order, and those of the others rise.
+-- The last version; the first is 1.
 abbrev pub lastVersion : ℕ
 lastVersion = 2
 
+-- The version whose steps may stand in any order; those of the others rise.
 abbrev pub anyOrder : ℕ
 anyOrder = 1
 
