@@ -82,11 +82,14 @@ module _ (file : ℕ) (z : Sizes) (r : List ℕ) where
 
 -- ---- the numbers are 10 to 15, and 20 and 15, with the file given
 
+abbrev pub certificateNumbers : List ℕ
+certificateNumbers = 10 ∷ 11 ∷ 12 ∷ 13 ∷ 14 ∷ 15 ∷ []
+
 module _ (f : ℕ → ℕ → Bool) (file : ℕ) where
-  pub certificate-numbers : T (allows f file (10 ∷ 11 ∷ 12 ∷ 13 ∷ 14 ∷ 15 ∷ [])) → (z : Sizes) (c : List ℕ) → Numbered f (certificateCauses file z c)
-  certificate-numbers h z c = go (allowed f file (10 ∷ 11 ∷ 12 ∷ 13 ∷ 14 ∷ 15 ∷ []) h)
+  pub certificate-numbers : T (allows f file certificateNumbers) → (z : Sizes) (c : List ℕ) → Numbered f (certificateCauses file z c)
+  certificate-numbers h z c = go (allowed f file certificateNumbers h)
     where
-      go : All (λ code. T (f code file)) (10 ∷ 11 ∷ 12 ∷ 13 ∷ 14 ∷ 15 ∷ []) → Numbered f (certificateCauses file z c)
+      go : All (λ code. T (f code file)) certificateNumbers → Numbered f (certificateCauses file z c)
       go (h10, (h11, (h12, (h13, (h14, (h15, none)))))) = (h10, (h11, (h12, (h13, (h14, numbered-below f (z .n1) _ (λ s. (h15, tt)))))))
 
   pub relation-numbers : T (allows f file (20 ∷ 15 ∷ [])) → (z : Sizes) (r : List ℕ) → Numbered f (relationCauses file z r)

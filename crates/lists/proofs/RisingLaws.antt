@@ -46,7 +46,8 @@ module _ (f g : ℕ → ℕ) (m k : ℕ) (r : Rise f m) (q : Rise g k) (w : With
       omega arith
 
 -- two rising lists with the same members are equally long, and agree at every place
-pub rising-same : (f g : ℕ → ℕ) (m k : ℕ) → Rise f m → Rise g k → Within f m g k → Within g k f m → (m ≡ k) × ((j : ℕ) → j < m → f j ≡ g j)
+pub rising-same : (f g : ℕ → ℕ) (m k : ℕ) → Rise f m → Rise g k → Within f m g k → Within g k f m
+    → (m ≡ k) × ((j : ℕ) → j < m → f j ≡ g j)
 rising-same f g m k r q w v =
     let e : m ≡ k =
     elim (decLt m k) [

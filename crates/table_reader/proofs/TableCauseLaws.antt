@@ -1,11 +1,11 @@
 -- The table reader's part of demand 1: a table is refused with the six numbers of the first cause that applies to its bytes, and read where none does.
 -- The reader is a chain of tests in the order of the causes, and each test decides its cause. Assumes nothing.
-use Prim.Native.Nat.{ℕ, _<_}
+use Prim.Native.Nat.{ℕ}
 use mathlib.Core.Path.{_≡_, refl, ap, _∙_}
 use mathlib.Core.Bool.{Bool}
 use mathlib.Core.List.{List, [], _∷_, _++_}
 use native.Mathlib.Omega.{arith}
-use lib.Dec.{T, lit<}
+use lib.Dec.{T, ltb, ltb→lt}
 use lib.ListN.{length}
 use Rattle.lists.specs.Lists.{All}
 use Rattle.lists.proofs.JoinLaws.{all-append, all-join, all-map}
@@ -94,11 +94,13 @@ after-table file s d = decided-then (tableVerdict file (readTable s)) (table-dec
 
 -- ---- the numbers are 1 to 9 and 24, with the file given
 
-pub table-numbers : (f : ℕ → ℕ → Bool) (file : ℕ) → T (allows f file (1 ∷ 2 ∷ 3 ∷ 4 ∷ 5 ∷ 6 ∷ 7 ∷ 8 ∷ 9 ∷ 24 ∷ [])) → (s : List ℕ)
-    → Numbered f (tableCauses file s)
-table-numbers f file h s = go (allowed f file (1 ∷ 2 ∷ 3 ∷ 4 ∷ 5 ∷ 6 ∷ 7 ∷ 8 ∷ 9 ∷ 24 ∷ []) h)
+abbrev pub tableNumbers : List ℕ
+tableNumbers = 1 ∷ 2 ∷ 3 ∷ 4 ∷ 5 ∷ 6 ∷ 7 ∷ 8 ∷ 9 ∷ 24 ∷ []
+
+pub table-numbers : (f : ℕ → ℕ → Bool) (file : ℕ) → T (allows f file tableNumbers) → (s : List ℕ) → Numbered f (tableCauses file s)
+table-numbers f file h s = go (allowed f file tableNumbers h)
   where
-    go : All (λ code. T (f code file)) (1 ∷ 2 ∷ 3 ∷ 4 ∷ 5 ∷ 6 ∷ 7 ∷ 8 ∷ 9 ∷ 24 ∷ []) → Numbered f (tableCauses file s)
+    go : All (λ code. T (f code file)) tableNumbers → Numbered f (tableCauses file s)
     go (h1, (h2, (h3, (h4, (h5, (h6, (h7, (h8, (h9, (h24, none)))))))))) =
         numbered-append f (headerCauses file s) (endCauses file s ++ orderCauses file s) (h1, (h2, (h3, (h4, (h5, (h6, (h7, tt)))))))
         (numbered-append f (endCauses file s) (orderCauses file s) (numbered-below f (stepsOf s) _ (λ j. (h8, tt)))
@@ -115,16 +117,17 @@ module _ (file : ℕ) (s : List ℕ) where
   abbrev Tells : Cause → Type 0
   Tells c = c .condition → Told (c .numbers)
 
-  below-9 : {C : Type 0} (code : ℕ) → code < 9 → C → (code ≡ 9 → InAnyOrder s) × (code ≡ 24 → ¬ InAnyOrder s)
-  below-9 code l p = (λ e. absurd (omega arith), λ e. absurd (omega arith))
+  -- a number below 9 is neither
+  below-9 : {C : Type 0} (code : ℕ) → T (ltb code 9) → C → (code ≡ 9 → InAnyOrder s) × (code ≡ 24 → ¬ InAnyOrder s)
+  below-9 code h p = let l = ltb→lt code 9 h in (λ e. absurd (omega arith), λ e. absurd (omega arith))
 
   pub order-told : (a : Answer) → FirstCause (tableCauses file s) a → (a .code ≡ 9 → InAnyOrder s) × (a .code ≡ 24 → ¬ InAnyOrder s)
   order-told a =
       first-holds Told (tableCauses file s) a
       (all-append Tells (headerCauses file s) (endCauses file s ++ orderCauses file s)
-      (below-9 1 (lit< tt), (below-9 2 (lit< tt), (below-9 3 (lit< tt), (below-9 4 (lit< tt), (below-9 5 (lit< tt), (below-9 6 (lit< tt), (below-9 7 (lit< tt), tt)))))))
+      (below-9 1 tt, (below-9 2 tt, (below-9 3 tt, (below-9 4 tt, (below-9 5 tt, (below-9 6 tt, (below-9 7 tt, tt)))))))
       (all-append Tells (endCauses file s) (orderCauses file s)
-      (all-join Tells (stepsOf s) _ (λ j l. (below-9 8 (lit< tt), tt)))
+      (all-join Tells (stepsOf s) _ (λ j l. (below-9 8 tt, tt)))
       (all-append Tells (only (InAnyOrder s) (doubledCauses file s)) (only (¬ InAnyOrder s) (notGreaterCauses file s))
       (all-map Tells _ (doubledCauses file s) (all-join _ (stepsOf s) _ (λ j l. (λ p. (λ e. p .0, λ e. absurd (omega arith)), tt))))
       (all-map Tells _ (notGreaterCauses file s) (all-join _ (stepsOf s) _ (λ j l. (λ p. (λ e. absurd (omega arith), λ e. p .0), tt)))))))
