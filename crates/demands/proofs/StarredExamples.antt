@@ -39,7 +39,7 @@ use Rattle.certificates.specs.Layout.{sizesOf, certificateLength, alAt, arAt, c
 use Rattle.certificate_reader.specs.CertificateReading.{certificateSizesFit, wideRow, readRows, readCertificate, readRelation}
 use Rattle.certificate_reader.specs.CertificateReading as certificates
 use Rattle.certificates.specs.CertificateModel.{AreBytes, relatedIn, viewOf, ranksOf}
-use Rattle.outcomes.specs.Obligation.{outcomeOf, isApart, obligationAt}
+use Rattle.outcomes.specs.Obligation.{smallestEntered, outcomeAfter2a, isApart, obligationAt}
 use Rattle.answers.specs.Verdicts.{along, firstOf}
 use Rattle.answers.specs.declared.Answer.{Answer}
 use Rattle.obligations.specs.Judging.{pairChecks, checksBy, checks, startsVerdict, checkVerdict}
@@ -67,8 +67,8 @@ unfolding
     magicFits versionOf versionFits statesOf statesFit startOf stepsOf initialOf tableLength labelsAt stepsAt stepsEnd
     labelsPart stepsPart labelOf fromOf toOf endsOutside sameStep doubled readSizes readHeader readSteps readTable
     systemOf sizesOf certificateLength alAt arAt clAt crAt rowsPart rowOf certificateSizesFit wideRow
-    readRows readCertificate certificates.readHeader relatedIn viewOf ranksOf outcomeOf isApart obligationAt joinBelow stepsFrom pairChecks checksBy checks
-    along startsVerdict checkVerdict pairsIn judged judgedBytes judgeVerdict judgeAnswer
+    readRows readCertificate certificates.readHeader relatedIn viewOf ranksOf smallestEntered outcomeAfter2a isApart obligationAt
+    joinBelow stepsFrom pairChecks checksBy checks along startsVerdict checkVerdict pairsIn judged judgedBytes judgeVerdict judgeAnswer
     readRelation roomVerdict examined firstOf makerVerdict verdictBy mayKeep endlessAt firstChain endless
     matchesWithin matched distance mayChain chainAlong stutterRank matchRank mostBelow
     readVerdict madeVerdict makeVerdict makeAnswer makeOutput fileFor certificateHeader certificateFile bigBytes tabulate grid putFront
@@ -85,8 +85,8 @@ unfolding
     magicFits versionOf versionFits statesOf statesFit startOf stepsOf initialOf tableLength labelsAt stepsAt stepsEnd
     labelsPart stepsPart labelOf fromOf toOf endsOutside sameStep doubled readSizes readHeader readSteps readTable
     systemOf sizesOf certificateLength alAt arAt clAt crAt rowsPart rowOf certificateSizesFit wideRow
-    readRows readCertificate certificates.readHeader relatedIn viewOf ranksOf outcomeOf isApart obligationAt joinBelow stepsFrom pairChecks checksBy checks
-    along startsVerdict checkVerdict pairsIn judged judgedBytes judgeVerdict judgeAnswer
+    readRows readCertificate certificates.readHeader relatedIn viewOf ranksOf smallestEntered outcomeAfter2a isApart obligationAt
+    joinBelow stepsFrom pairChecks checksBy checks along startsVerdict checkVerdict pairsIn judged judgedBytes judgeVerdict judgeAnswer
     readRelation roomVerdict examined firstOf makerVerdict verdictBy mayKeep endlessAt firstChain endless
     matchesWithin matched distance mayChain chainAlong stutterRank matchRank mostBelow
     readVerdict madeVerdict makeVerdict makeAnswer makeOutput fileFor certificateHeader certificateFile bigBytes tabulate grid putFront

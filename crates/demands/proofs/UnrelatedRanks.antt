@@ -1,6 +1,6 @@
 -- Ranks of unrelated pairs are not looked at: two certificates that differ only there get the same six numbers. Assumes nothing.
 use Prim.Native.Nat.{ℕ, _+_, _*_, _≤_, _<_}
-use mathlib.Core.Path.{_≡_, refl, sym, ap, ap₂, _∙_, subst}
+use mathlib.Core.Path.{_≡_, refl, sym, ap, ap₂, _∙_, subst, fun-ext}
 use mathlib.Core.Bool.{Bool, true, false, cond, not, _&&_}
 use mathlib.Core.List.{List, [], _∷_}
 use native.Mathlib.Omega.{arith}
@@ -10,11 +10,10 @@ use borrow.Author.Tests.{eqb-true, not-false}
 use lib.Seq.{ext-getD}
 use Rattle.lists.specs.Lists.{All}
 use Rattle.lists.specs.Numbers.{byteAt, bigEndian}
-use Rattle.lists.proofs.BelowLaws.{any-cong}
 use Rattle.lists.proofs.BoolLaws.{and-r}
 use Rattle.lists.proofs.NumberLaws.{big-cong}
 use Rattle.bisimulation.specs.Systems.{View, Ranks, flip, swap}
-use Rattle.bisimulation.specs.Judge.{is2a, is2b, is2c, meets2c}
+use Rattle.bisimulation.specs.Judge.{is2b, is2c, meets2c}
 use Rattle.tables.specs.Table.{statesOf, startOf, magicFits}
 use Rattle.table_reader.specs.TableReading.{readTable}
 use Rattle.answers.specs.Verdicts.{Verdict, _andThen_, answerOf}
@@ -37,7 +36,7 @@ use Rattle.sweeps.specs.declared.Tally.{Tally}
 use Rattle.table_reader.specs.TableVerdicts.{tableVerdict}
 use Rattle.certificate_reader.specs.CertificateVerdicts.{certificateVerdict}
 use Rattle.demands.specs.Demand2.{SameWhereRelated}
-use Rattle.outcomes.specs.Obligation.{outcomeOf, isApart, obligationAt}
+use Rattle.outcomes.specs.Obligation.{obligationAt}
 use Rattle.obligations.specs.Judging.{Check, checks, startsVerdict, Finding, stepVerdict, checkVerdict}
 use Rattle.obligations.proofs.JudgingLaws.{checks-all}
 
@@ -58,17 +57,15 @@ module _ (v : View) (r r′ : Ranks) (same : SameRanks v r r′) (j t : ℕ) (re
       and-same (v .own .silent j && v .related (v .own .to j) t)
       (λ h. ap₂ ltb (same .stutter (v .own .to j) t (and-r (v .own .silent j) _ h)) (same .stutter (v .own .from j) t rel))
 
-  same-2c : is2c v r j t ≡ is2c v r′ j t
-  unfolding is2c
-  same-2c =
-      any-cong (v .other .steps) (meets2c v r j t) (meets2c v r′ j t) λ k l.
+  same-2c : meets2c v r j t ≡ meets2c v r′ j t
+  same-2c = fun-ext λ k.
       and-same (eqb (v .other .from k) t && v .other .silent k && v .related (v .own .from j) (v .other .to k))
       (λ h. ap₂ ltb (same .match j (v .other .to k) (and-r (eqb (v .other .from k) t && v .other .silent k) _ h))
       (same .match j t rel))
 
   same-obligation : obligationAt v r j t ≡ obligationAt v r′ j t
-  unfolding obligationAt
-  same-obligation = ap₂ (λ (b c : Bool). outcomeOf (is2a v j t) b c (isApart v j t)) same-2b same-2c
+  unfolding obligationAt is2c
+  same-obligation = rw (same-2b, same-2c)
 
 module _ (v : View) (r r′ : Ranks) where
   abbrev Same : Check → Type 0

@@ -9,7 +9,7 @@ use native.Mathlib.Numerals.{add-one}
 use native.Mathlib.Omega.{arith}
 use native.Mathlib.Decide.{decLt}
 use lib.Dec.{T}
-use Rattle.lists.specs.Below.{anyBelow, allBelow, firstBelow, sumBelow, countBelow, mostBelow}
+use Rattle.lists.specs.Below.{anyBelow, allBelow, firstBelow, Smallest, sumBelow, countBelow, mostBelow}
 use Rattle.lists.proofs.BoolLaws.{and-l, and-r, and-i, or-e, or-l, or-r, T-dec, T-true, true-T, false-not-T, cond-true}
 
 -- ---- some
@@ -126,6 +126,21 @@ first-none n f none = elim (decLt (firstBelow n f) n) [
   | yes p ↦ absurd (none _ p (first-passes n f p))
   | no q ↦ omega (arith, first-bound n f)
 ]
+
+-- ---- the smallest
+
+-- where those that pass are below the bound and there is one, the first is the smallest that passes
+pub first-smallest : (n : ℕ) (f : ℕ → Bool) → ((i : ℕ) → T (f i) → i < n) → (i : ℕ) → T (f i) → Smallest (λ x. T (f x)) (firstBelow n f)
+first-smallest n f small i h = (first-at n f i (small i h) h, λ y p. first-le n f y (small y p) p)
+
+module _ (P : ℕ → Type 0) where
+  -- there is one at most
+  pub smallest-one : {x y : ℕ} → Smallest P x → Smallest P y → x ≡ y
+  smallest-one {x} {y} p q = omega (arith, p .1 y (q .0), q .1 x (p .0))
+
+  -- it is that of each property of the same numbers
+  pub smallest-as : (Q : ℕ → Type 0) → ((x : ℕ) → P x → Q x) → ((x : ℕ) → Q x → P x) → {x : ℕ} → Smallest P x → Smallest Q x
+  smallest-as Q f g {x} p = (f x (p .0), λ y q. p .1 y (g y q))
 
 -- ---- equal tests and numbers below the bound give equal searches
 

@@ -1,5 +1,5 @@
 -- Bounded searches: tests and numbers over the indices below a bound. One family serves the theory, the readers, the judge and the maker.
-use Prim.Native.Nat.{ℕ, zero, suc, _+_, max}
+use Prim.Native.Nat.{ℕ, zero, suc, _+_, _≤_, max}
 use mathlib.Core.Bool.{Bool, true, false, _&&_, _||_, cond}
 
 -- Some index below the bound passes the test.
@@ -16,6 +16,10 @@ allBelow (suc n) f = f 0 && allBelow n (λ i. f (suc i))
 unfoldable pub firstBelow : ℕ → (ℕ → Bool) → ℕ
 firstBelow zero f = 0
 firstBelow (suc n) f = cond (f 0) 0 (suc (firstBelow n (λ i. f (suc i))))
+
+-- x is the smallest number with the property.
+abbrev pub Smallest : (ℕ → Type 0) → ℕ → Type 0
+Smallest P x = P x × ((y : ℕ) → P y → x ≤ y)
 
 -- The sum of the numbers at the indices below the bound.
 unfoldable pub sumBelow : ℕ → (ℕ → ℕ) → ℕ

@@ -2,8 +2,8 @@
 -- applies. Assumes nothing.
 use Prim.Native.Nat.{ℕ, _<_}
 use mathlib.Core.Path.{_≡_, refl, sym, subst}
-use mathlib.Core.Logic.{_↔_, inl, inr, ⊎-elim}
-use mathlib.Core.Bool.{Bool, true, false, _||_}
+use mathlib.Core.Logic.{_↔_, inl, inr}
+use mathlib.Core.Bool.{Bool, _||_}
 use mathlib.Core.List.{[], _∷_, map, flatMap}
 use lib.Dec.{T, eqb, eqb→eq}
 use Rattle.lists.specs.Lists.{All}
@@ -12,18 +12,21 @@ use Rattle.lists.proofs.JoinLaws.{all-append, append-all, all-join, join-all, a
 use Rattle.answers.specs.Causes.{NoCause, Numbered, allows}
 use Rattle.answers.proofs.CauseLaws.{allowed}
 use Rattle.answers.specs.Verdicts.{goOn, refusedWith}
-use Rattle.answers.proofs.DecideLaws.{Decides, decides-as, decides-stable, test-decides, eqb-decides, not-decides, and-decides, or-decides, any-decides}
+use Rattle.answers.proofs.DecideLaws.{Decides, decides-stable, test-decides, eqb-decides, not-decides, or-decides}
 use Rattle.answers.proofs.VerdictLaws.{Decided, Anything, decided-none, decided-as, decided-unless}
 use Rattle.bisimulation.specs.Systems.{System, View, Ranks, WellFormed, flip, swap, stepsFrom, LabelsEqual}
-use Rattle.bisimulation.specs.Clauses.{Meets2a, Meets2b, Meets2c, Meets, EveryObligation}
+use Rattle.bisimulation.specs.Clauses.{Meets, EveryObligation}
 use Rattle.bisimulation.specs.Judge.{is2a, is2b, is2c}
-use Rattle.bisimulation.specs.Triples.{ahead}
-use Rattle.bisimulation.proofs.ClauseLaws.{is2a-e, is2a-i, is2b-e, is2b-i, is2c-e, is2c-i}
-use Rattle.outcomes.specs.Obligation.{outcomeOf, isApart, obligationAt}
+use Rattle.outcomes.specs.declared.Failure.the-variants as failure
+use Rattle.outcomes.specs.declared.Outcome.{Outcome}
+use Rattle.outcomes.specs.declared.Outcome.the-variants.{Met, Failed}
+use Rattle.outcomes.specs.Obligation.{obligationAt}
+use Rattle.obligations.specs.Outcomes.{HasOutcome}
 use Rattle.obligations.specs.CheckAnswers.{startsAnswer, labelsAnswer}
 use Rattle.obligations.specs.Judging.{Check, labelsOf, leftStep, rightStep, pairChecks, checksBy, checks, isObligation}
 use Rattle.obligations.specs.Judging.{startsVerdict, Finding, nothing, metBy, stepVerdict, checkVerdict}
-use Rattle.obligations.specs.CheckCauses.{startsCauses, Apart, unmetCauses, MetFirstBy, checkCauses, CheckMetBy}
+use Rattle.obligations.specs.CheckCauses.{startsCauses, unmetCauses, checkCauses, CheckHasOutcome}
+use Rattle.obligations.proofs.OutcomeLaws.{step-decides, stutter-decides, match-decides, meets-first, outcome-is}
 
 -- ---- what holds of all checks
 
@@ -84,53 +87,25 @@ starts-decided v start start′ =
 
 -- ---- one check
 
-apart-decides : (v : View) (j t : ℕ) → Decides (isApart v j t) (Apart v j t)
-unfolding isApart ahead
-apart-decides v j t =
-    decides-as
-    (and-decides (not-decides (and-decides (test-decides (v .own .silent j)) (test-decides (v .related (v .own .to j) t))))
-    (not-decides (any-decides (v .other .steps) (λ k.
-    and-decides (and-decides (eqb-decides (v .other .from k) t) (test-decides (v .other .silent k)))
-    (test-decides (v .related (v .own .from j) (v .other .to k)))))))
-    (λ p. (p .0, λ k l e q h. p .1 (k, l, ((e, q), h)))) (λ p. (p .0, λ q. p .1 (q .0) (q .1) (q .2 .0 .0) (q .2 .0 .1) (q .2 .1)))
-
-step-decides : (v : View) (j t : ℕ) → Decides (is2a v j t) (Meets2a v j t)
-step-decides v j t = record { sound = is2a-e v j t; complete = is2a-i v j t }
-
-stutter-decides : (v : View) (r : Ranks) (j t : ℕ) → Decides (is2b v r j t) (Meets2b v r j t)
-stutter-decides v r j t = record { sound = is2b-e v r j t; complete = is2b-i v r j t }
-
-match-decides : (v : View) (r : Ranks) (j t : ℕ) → Decides (is2c v r j t) (Meets2c v r j t)
-match-decides v r j t = record { sound = is2c-e v r j t; complete = is2c-i v r j t }
-
--- What a check that goes on has found: the clause by which it is met, or nothing where it is no obligation.
+-- What a check that goes on has found: by which clause and state it is met, or nothing where it is no obligation.
 abbrev pub Found : View → Ranks → Check → Finding → Type 0
 Found v r c nothing = isObligation c ≡ 0
-Found v r c (metBy clause) = CheckMetBy v r clause c
+Found v r c (metBy clause x) = CheckHasOutcome v r c (Met clause x)
 
--- the clause of an outcome that is met
-abbrev FirstBy : View → Ranks → ℕ → ℕ → Finding → Type 0
-FirstBy v r j t nothing = ⊥
-FirstBy v r j t (metBy clause) = MetFirstBy v r j t clause
+-- the clause and the state of an outcome that is met
+abbrev FoundAt : View → Ranks → ℕ → ℕ → Finding → Type 0
+FoundAt v r j t nothing = ⊥
+FoundAt v r j t (metBy clause x) = HasOutcome v r j t (Met clause x)
 
 module _ (v : View) (r : Ranks) (j t side left right : ℕ) where
-  outcome-decided : (a b c d : Bool) → Decides a (Meets2a v j t) → Decides b (Meets2b v r j t) → Decides c (Meets2c v r j t) → Decides d (Apart v j t)
-      → Decided (FirstBy v r j t) (unmetCauses v r j t side left right) (stepVerdict side left right j (outcomeOf a b c d))
-  unfolding outcomeOf
-  outcome-decided true b c d p q s x = record { by = (p .sound tt, (λ n. n .0 (inl (p .sound tt)), (λ n. n (inl (p .sound tt)), tt))) }
-  outcome-decided false true c d p q s x =
-      record { by = ((p .complete, q .sound tt), (λ n. n .0 (inr (inl (q .sound tt))), (λ n. n (inr (inl (q .sound tt))), tt))) }
-  outcome-decided false false true d p q s x =
-      record { by = ((p .complete, q .complete, s .sound tt), (λ n. n .0 (inr (inr (s .sound tt))), (λ n. n (inr (inr (s .sound tt))), tt))) }
-  outcome-decided false false false true p q s x = record { by = inl ((⊎-elim (p .complete) (⊎-elim (q .complete) (s .complete)), x .sound tt), refl) }
-  outcome-decided false false false false p q s x =
-      record { by = inr (λ n. x .complete (n .1), inl (⊎-elim (p .complete) (⊎-elim (q .complete) (s .complete)), refl)) }
+  outcome-decided : (o : Outcome) → HasOutcome v r j t o
+      → Decided (FoundAt v r j t) (unmetCauses v r j t side left right) (stepVerdict side left right j o)
+  outcome-decided (Met clause x) p = let m = meets-first v r j t clause (p .0) in record { by = (p, (λ n. n .0 m, (λ n. n m, tt))) }
+  outcome-decided (Failed failure.Apart) p = record { by = inl (p, refl) }
+  outcome-decided (Failed failure.Rank) p = record { by = inr (λ n. p .1 (n .1), inl (p .0, refl)) }
 
-  step-decided : Decided (FirstBy v r j t) (unmetCauses v r j t side left right) (stepVerdict side left right j (obligationAt v r j t))
-  unfolding obligationAt
-  step-decided =
-      outcome-decided (is2a v j t) (is2b v r j t) (is2c v r j t) (isApart v j t)
-      (step-decides v j t) (stutter-decides v r j t) (match-decides v r j t) (apart-decides v j t)
+  step-decided : Decided (FoundAt v r j t) (unmetCauses v r j t side left right) (stepVerdict side left right j (obligationAt v r j t))
+  step-decided = outcome-decided (obligationAt v r j t) (outcome-is v r j t)
 
 module _ (v : View) (r : Ranks) where
   -- the judge's verdict on a check is decided by its causes
@@ -141,14 +116,14 @@ module _ (v : View) (r : Ranks) where
       (not-decides (eqb-decides (v .own .label s) (v .other .label t))) refl (decided-none refl)
   check-decided (leftStep s t j) = decided-as (stepVerdict 0 s t j (obligationAt v r j t)) go (step-decided v r j t 0 s t)
     where
-      go : (x : Finding) → FirstBy v r j t x → Found v r (leftStep s t j) x
+      go : (x : Finding) → FoundAt v r j t x → Found v r (leftStep s t j) x
       go nothing p = absurd p
-      go (metBy clause) p = p
+      go (metBy clause x) p = p
   check-decided (rightStep s t j) = decided-as (stepVerdict 1 s t j (obligationAt (flip v) (swap r) j s)) go (step-decided (flip v) (swap r) j s 1 s t)
     where
-      go : (x : Finding) → FirstBy (flip v) (swap r) j s x → Found v r (rightStep s t j) x
+      go : (x : Finding) → FoundAt (flip v) (swap r) j s x → Found v r (rightStep s t j) x
       go nothing p = absurd p
-      go (metBy clause) p = p
+      go (metBy clause x) p = p
 
 -- ---- no check has a cause that applies exactly where labels are equal and the obligations of both sides are met
 

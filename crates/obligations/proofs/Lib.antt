@@ -1,3 +1,4 @@
 -- Laws of obligations.
+pub mod OutcomeLaws
 pub mod JudgingLaws
 pub mod OnSidesLaws

@@ -113,9 +113,9 @@ module _ (ours theirs certificate : List ℕ) (run : Run) (j t : ℕ) where
     met-is = em ∙ ap₂ (λ (x y : ℕ). firstBit (bitAnd x y)) en (et ∙ ap (relatedTo ours) eu)
 
     -- 2a holds
-    pub by-step : met < 64 → Met Step ≡ obligationIn ours theirs certificate run j t
+    pub by-step : met < 64 → Met Step met ≡ obligationIn ours theirs certificate run j t
     unfolding obligationIn obligationOf
-    by-step h = let k = rw met-is at h in sym (rw (lt-ltb _ 64 k))
+    by-step h = let k = rw met-is at h in rw met-is (sym (rw (lt-ltb _ 64 k)))
 
     -- it does not
     pub by-rank : {s source before after : ℕ} {ranks : List ℕ} → 64 ≤ met → s ≡ systemIn ours .from j → source ≡ relatedTo ours s

@@ -1,15 +1,16 @@
--- The causes 16 to 19, each worded as its row of document 01's table, and not through the judge's tests; and by which clause an obligation is met.
-use Prim.Native.Nat.{ℕ, _<_}
+-- The causes 16 to 19, each worded as its row of document 01's table, and not through the judge's tests; and by which clause a check is met.
+use Prim.Native.Nat.{ℕ}
 use mathlib.Core.Path.{_≡_}
 use mathlib.Core.List.{List, [], _∷_}
 use lib.Dec.{T}
-use Rattle.bisimulation.specs.Systems.{View, Ranks, flip, swap, Stays}
-use Rattle.bisimulation.specs.Clauses.{Meets2a, Meets2b, Meets2c, Meets}
+use Rattle.bisimulation.specs.Systems.{View, Ranks, flip, swap}
+use Rattle.bisimulation.specs.Clauses.{Meets}
 use Rattle.answers.specs.Causes.{Cause, _gives_}
 use Rattle.obligations.specs.CheckAnswers.{startsAnswer, labelsAnswer, stepAnswer}
+use Rattle.obligations.specs.Outcomes.{Apart, MetFirstBy, HasOutcome}
 use Rattle.obligations.specs.Judging.{Check, labelsOf, leftStep, rightStep}
 use Rattle.outcomes.specs.declared.Clause.{Clause}
-use Rattle.outcomes.specs.declared.Clause.the-variants.{Step, Stutter, Match}
+use Rattle.outcomes.specs.declared.Outcome.{Outcome}
 
 -- 16: the starts are unrelated.
 abbrev pub startsCauses : View → ℕ → ℕ → List Cause
@@ -19,23 +20,12 @@ startsCauses v start start′ = (¬ T (v .related start start′)) gives startsA
 abbrev pub labelCauses : View → ℕ → ℕ → List Cause
 labelCauses v s t = (¬ (v .own .label s ≡ v .other .label t)) gives labelsAnswer s t ∷ []
 
--- Of the own step j at t: u, t are unrelated, and no step from t goes to a state related to s. Only silent steps count, where steps have keys.
-abbrev pub Apart : View → ℕ → ℕ → Type 0
-Apart v j t =
-    (¬ Stays v j t) × ((k : ℕ) → k < v .other .steps → v .other .from k ≡ t → T (v .other .silent k) → ¬ T (v .related (v .own .from j) (v .other .to k)))
-
 -- The obligation of the own step j at t is unmet: 18 where the two are apart, 19 otherwise.
 abbrev pub unmetCauses : View → Ranks → ℕ → ℕ → ℕ → ℕ → ℕ → List Cause
 unmetCauses v r j t side left right =
     ((¬ Meets v r j t) × Apart v j t) gives stepAnswer 18 side left right j
     ∷ (¬ Meets v r j t) gives stepAnswer 19 side left right j
     ∷ []
-
--- The obligation of the own step j at t is met by the clause: the first of 2a, 2b and 2c that holds.
-abbrev pub MetFirstBy : View → Ranks → ℕ → ℕ → Clause → Type 0
-MetFirstBy v r j t Step = Meets2a v j t
-MetFirstBy v r j t Stutter = (¬ Meets2a v j t) × Meets2b v r j t
-MetFirstBy v r j t Match = (¬ Meets2a v j t) × (¬ Meets2b v r j t) × Meets2c v r j t
 
 module _ (v : View) (r : Ranks) where
   -- The causes of a check of the judge.
@@ -49,3 +39,9 @@ module _ (v : View) (r : Ranks) where
   CheckMetBy clause (labelsOf s t) = ⊥
   CheckMetBy clause (leftStep s t j) = MetFirstBy v r j t clause
   CheckMetBy clause (rightStep s t j) = MetFirstBy (flip v) (swap r) j s clause
+
+  -- The check is an obligation with this outcome.
+  abbrev pub CheckHasOutcome : Check → Outcome → Type 0
+  CheckHasOutcome (labelsOf s t) outcome = ⊥
+  CheckHasOutcome (leftStep s t j) outcome = HasOutcome v r j t outcome
+  CheckHasOutcome (rightStep s t j) outcome = HasOutcome (flip v) (swap r) j s outcome

@@ -35,14 +35,14 @@ checks v = checksBy (v .own .states) (v .other .states) (v .related) (stepsFrom 
 unfoldable pub startsVerdict : View → ℕ → ℕ → Verdict (Unit {0})
 startsVerdict v start start′ = passIf (v .related start start′) (startsAnswer start start′)
 
--- What a check that goes on has found: nothing to count, or the clause that meets an obligation.
+-- What a check that goes on has found: nothing to count, or the clause that meets an obligation and the state that serves.
 pub data Finding : Type 0 where
   nothing : Finding
-  metBy : Clause → Finding
+  metBy : Clause → ℕ → Finding
 
 -- The verdict on an obligation.
 abbrev pub stepVerdict : ℕ → ℕ → ℕ → ℕ → Outcome → Verdict Finding
-stepVerdict side s t j (Met clause) = goOn (metBy clause)
+stepVerdict side s t j (Met clause x) = goOn (metBy clause x)
 stepVerdict side s t j (Failed failure) = refusedWith (stepAnswer (failureNumber failure) side s t j)
 
 -- The judge's verdict on a check.

@@ -1,4 +1,5 @@
 pub mod CheckAnswers
 pub mod Judging
+pub mod Outcomes
 pub mod CheckCauses
 pub mod OnSides

@@ -140,8 +140,9 @@ pub fn obligation_at(
     let entering = entered(theirs, t);
     // Most obligations are met by 2a, which looks at no rank.
     let met = entering.intersect(target);
-    if met.first() < Head::MAX_STATES {
-        return Outcome::Met(Clause::Step);
+    let state = met.first();
+    if state < Head::MAX_STATES {
+        return Outcome::Met(Clause::Step, state);
     }
     let s = from(ours, j);
     let facing = Facing {

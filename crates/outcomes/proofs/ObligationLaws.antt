@@ -1,28 +1,27 @@
 -- Laws of one obligation on words: the walk that finds the smallest falling state, and that the words give the theory's outcome. Assumes nothing.
-use Prim.Native.Nat.{ℕ, _^_, _≤_, _<_}
-use mathlib.Core.Path.{_≡_, sym, ap, ap₂, _∙_, subst}
-use mathlib.Core.Bool.{Bool, true, false, not, _&&_, and-false}
+use Prim.Native.Nat.{ℕ, suc, _^_, _≤_, _<_}
+use mathlib.Core.Path.{_≡_, refl, sym, ap, ap₂, _∙_, subst}
+use mathlib.Core.Bool.{Bool, true, false, cond, not, _&&_, and-false}
 use mathlib.Core.List.{List}
 use native.Mathlib.Omega.{arith}
 use native.Mathlib.Decide.{ℕ-discrete}
 use lib.Bits.{bitAnd}
-use lib.Dec.{T, ltb, eqb, lt→ltb, ltb→lt, eqb→eq, eqb-refl}
+use lib.Dec.{T, ltb, eqb, lt→ltb, ltb→lt, eqb→eq}
 use borrow.Author.Tests.{le-ltb, ne-eqb}
-use Rattle.lists.specs.Below.{anyBelow}
+use Rattle.lists.specs.Below.{anyBelow, firstBelow, mostBelow, Smallest}
 use Rattle.lists.specs.Numbers.{byteAt}
 use Rattle.lists.proofs.BoolLaws.{and-l, and-r, and-i, eq→eqb, same-T}
 use Rattle.lists.proofs.BelowLaws as below
 use Rattle.words.specs.Bits.{hasBit, firstBit, removeBit, countBits}
 use Rattle.words.proofs.BitLaws as bits
-use Rattle.outcomes.specs.declared.Clause.the-variants.{Stutter, Match}
+use Rattle.outcomes.specs.declared.Clause.the-variants.{Step, Stutter, Match}
 use Rattle.outcomes.specs.declared.Failure.the-variants.{Apart, Rank}
 use Rattle.outcomes.specs.declared.Outcome.the-variants.{Met, Failed}
-use Rattle.bisimulation.specs.Systems.{View, Ranks, stays}
-use Rattle.bisimulation.specs.Judge.{is2a, is2b, is2c}
+use Rattle.bisimulation.specs.Systems.{System, View, Ranks, stays}
+use Rattle.bisimulation.specs.Judge.{meets2a, meets2c, is2a, is2b, is2c}
 use Rattle.bisimulation.specs.Triples.{ahead}
-use Rattle.bisimulation.proofs.ClauseLaws.{is2a-e, is2a-i, is2c-e, is2c-i}
 use Rattle.outcomes.specs.declared.Facing.{Facing}
-use Rattle.outcomes.specs.Obligation.{firstFalling, outcomeOf, staysAt, isApart, obligationAt, withoutStep, obligationOf}
+use Rattle.outcomes.specs.Obligation.{smallestEntered, outcomeAfter2a, isApart, obligationAt, firstFalling, staysAt, withoutStep, obligationOf}
 
 -- ---- what is asked of words and numbers
 
@@ -81,133 +80,157 @@ walk-shorter word w h = omega (arith, bits.count-remove word (firstBit word) w (
 
 -- ---- the first that holds
 
-module _ (a b c d : Bool) where
-  module _ (p : a ≡ false) where
-    pub outcome-stutter : b ≡ true → outcomeOf a b c d ≡ Met Stutter
-    unfolding outcomeOf
-    outcome-stutter q = rw (p, q)
+module _ (b c d : Bool) (t x : ℕ) where
+  pub outcome-stutter : b ≡ true → outcomeAfter2a b t c x d ≡ Met Stutter t
+  unfolding outcomeAfter2a
+  outcome-stutter q = rw q
 
-    module _ (q : b ≡ false) where
-      pub outcome-match : c ≡ true → outcomeOf a b c d ≡ Met Match
-      unfolding outcomeOf
-      outcome-match r = rw (p, q, r)
+  module _ (q : b ≡ false) where
+    pub outcome-match : c ≡ true → outcomeAfter2a b t c x d ≡ Met Match x
+    unfolding outcomeAfter2a
+    outcome-match r = rw (q, r)
 
-      module _ (r : c ≡ false) where
-        pub outcome-apart : d ≡ true → outcomeOf a b c d ≡ Failed Apart
-        unfolding outcomeOf
-        outcome-apart e = rw (p, q, r, e)
+    module _ (r : c ≡ false) where
+      pub outcome-apart : d ≡ true → outcomeAfter2a b t c x d ≡ Failed Apart
+      unfolding outcomeAfter2a
+      outcome-apart e = rw (q, r, e)
 
-        pub outcome-rank : d ≡ false → outcomeOf a b c d ≡ Failed Rank
-        unfolding outcomeOf
-        outcome-rank e = rw (p, q, r, e)
+      pub outcome-rank : d ≡ false → outcomeAfter2a b t c x d ≡ Failed Rank
+      unfolding outcomeAfter2a
+      outcome-rank e = rw (q, r, e)
 
--- ---- words and what they stand for
+-- a state is named only where its clause holds
+same-outcome : (a b c d : Bool) (t : ℕ) {x x′ y y′ : ℕ} → (T a → x ≡ x′) → (T c → y ≡ y′)
+    → cond a (Met Step x) (outcomeAfter2a b t c y d) ≡ cond a (Met Step x′) (outcomeAfter2a b t c y′ d)
+unfolding outcomeAfter2a
+same-outcome true b c d t e g = ap (Met Step) (e tt)
+same-outcome false true c d t e g = refl
+same-outcome false false true d t e g = ap (Met Match) (g tt)
+same-outcome false false false d t e g = refl
 
-module _ (word : ℕ) (w : word < 2 ^ 64) where
-  -- the word has a state exactly where its first is below 64
-  some-e : T (ltb (firstBit word) 64) → (x : ℕ) × T (hasBit word x)
-  some-e h = (firstBit word, bits.first-has word (ltb→lt _ _ h))
+-- ---- the states that steps enter
 
-  some-i : (x : ℕ) → T (hasBit word x) → T (ltb (firstBit word) 64)
-  unfolding firstBit
-  some-i x b = let l = bits.has-lt word x w b in lt→ltb (firstBit word) 64 (omega (arith, below.first-le 64 (hasBit word) x l b))
+-- Some step that passes the test enters x.
+abbrev pub Enters : System → (ℕ → Bool) → ℕ → Type 0
+Enters S test x = (k : ℕ) × (k < S .steps) × T (test k) × (S .to k ≡ x)
 
-  module _ (ranks : List ℕ) (t : ℕ) where
-    falling-e : T (ltb (firstFalling word ranks t) 64) → (x : ℕ) × T (hasBit word x) × (byteAt ranks x < byteAt ranks t)
-    unfolding firstFalling
-    falling-e h =
-        let b = below.first-passes 64 (λ x. hasBit word x && falls ranks t x) (ltb→lt _ _ h) in
-        (_, and-l (hasBit word _) _ b, ltb→lt _ _ (and-r (hasBit word _) _ b))
+-- where some step passes the test, the smallest is the smallest that one enters
+pub smallest-entered : (S : System) (test : ℕ → Bool) → T (anyBelow (S .steps) test) → Smallest (Enters S test) (smallestEntered S test)
+unfolding smallestEntered
+smallest-entered S test h =
+    let a = below.any-e _ _ h in
+    below.smallest-as (λ x. T (passed x)) (Enters S test) entered told
+    (below.first-smallest (suc (mostBelow (S .steps) (S .to))) passed small (S .to (a .0)) (told _ (a .0, a .1, a .2, refl)))
+  where
+    passed : ℕ → Bool
+    passed x = anyBelow (S .steps) (λ k. test k && eqb (S .to k) x)
 
-    falling-i : (x : ℕ) → T (hasBit word x) → byteAt ranks x < byteAt ranks t → T (ltb (firstFalling word ranks t) 64)
-    unfolding firstFalling
-    falling-i x b f =
-        let l = bits.has-lt word x w b in
-        lt→ltb (firstFalling word ranks t) 64
-        (omega (arith, below.first-le 64 (λ y. hasBit word y && falls ranks t y) x l (and-i (hasBit word x) (falls ranks t x) b (lt→ltb _ _ f))))
+    entered : (x : ℕ) → T (passed x) → Enters S test x
+    entered x p =
+        let q = below.any-e _ _ p in
+        (q .0, q .1, and-l (test (q .0)) _ (q .2), eqb→eq _ _ (and-r (test (q .0)) _ (q .2)))
+
+    told : (x : ℕ) → Enters S test x → T (passed x)
+    told x e = below.any-i _ _ (e .0) (e .1) (and-i (test (e .0)) _ (e .2) (eq→eqb _ _ (e .3)))
+
+    small : (x : ℕ) → T (passed x) → x < suc (mostBelow (S .steps) (S .to))
+    small x p = let e = entered x p in let m = below.most-ge (S .steps) (S .to) (e .0) (e .1) in rw (← (e .3)) (omega arith)
+
+-- The test on states tells those that steps which pass the other test enter, and all are below 64.
+record Tells (S : System) (test f : ℕ → Bool) : Type 0 where
+  entered : (x : ℕ) → T (f x) → Enters S test x
+  told : (x : ℕ) → Enters S test x → T (f x)
+  small : (x : ℕ) → T (f x) → x < 64
+
+module _ (S : System) (test f : ℕ → Bool) (w : Tells S test f) where
+  tells-some : ltb (firstBelow 64 f) 64 ≡ anyBelow (S .steps) test
+  tells-some =
+      same-T _ _
+      (λ h. let e = w .entered _ (below.first-passes 64 f (ltb→lt _ _ h)) in below.any-i _ _ (e .0) (e .1) (e .2))
+      (λ h.
+      let e = below.any-e _ _ h in
+      let b = w .told (S .to (e .0)) (e .0, e .1, e .2, refl) in
+      let l = w .small _ b in
+      lt→ltb (firstBelow 64 f) 64 (omega (arith, below.first-le 64 f _ l b)))
+
+  tells-smallest : T (anyBelow (S .steps) test) → firstBelow 64 f ≡ smallestEntered S test
+  tells-smallest h =
+      let e = below.any-e _ _ h in
+      below.smallest-one (Enters S test)
+      (below.smallest-as (λ x. T (f x)) (Enters S test) (w .entered) (w .told)
+      (below.first-smallest 64 f (w .small) _ (w .told (S .to (e .0)) (e .0, e .1, e .2, refl))))
+      (smallest-entered S test h)
 
 -- ---- the words of an obligation give the theory's outcome
 
 module _ (v : View) (r : Ranks) (j t : ℕ) (f : Facing) (faces : Faces v j t f) where
   open View v using (own, other, related, serves)
 
-  -- the states that steps from t enter, and that are related to a state of the own side
-  entered-e : (P : ℕ → Bool) (word to : ℕ) (own-state : ℕ)
-      → ((x : ℕ) → hasBit word x ≡ anyBelow (other .steps) (λ k. eqb (other .from k) t && P k && eqb (other .to k) x))
-      → ((x : ℕ) → hasBit to x ≡ related own-state x) → (x : ℕ) → T (hasBit (bitAnd word to) x)
-      → (k : ℕ) × (k < other .steps) × (other .from k ≡ t) × T (P k) × (other .to k ≡ x) × T (related own-state (other .to k))
-  entered-e P word to s is rel x b =
-      let c = subst T (bits.has-both word to x) b in
-      let q = below.any-e _ _ (subst T (is x) (and-l (hasBit word x) _ c)) in
-      let d = q .2 in
-      let e : other .to (q .0) ≡ x = eqb→eq _ _ (search (and-l, and-r)) in
-      (q .0, q .1, eqb→eq _ _ (search (and-l, and-r)), search (and-l, and-r), e, rw e (subst T (rel x) (and-r (hasBit word x) _ c)))
+  -- the states of two words: those that steps from t enter, and those related to a state of the own side
+  module _ (P : ℕ → Bool) (word to s : ℕ)
+      (is : (x : ℕ) → hasBit word x ≡ anyBelow (other .steps) (λ k. eqb (other .from k) t && P k && eqb (other .to k) x))
+      (rel : (x : ℕ) → hasBit to x ≡ related s x) (w : word < 2 ^ 64) where
+    both-tell : Tells other (λ k. eqb (other .from k) t && P k && related s (other .to k)) (hasBit (bitAnd word to))
+    both-tell = record { entered = entered; told = told; small = λ x. bits.has-lt _ x (bits.both-word word to w) }
+      where
+        entered : (x : ℕ) → T (hasBit (bitAnd word to) x) → Enters other (λ k. eqb (other .from k) t && P k && related s (other .to k)) x
+        entered x b =
+            let c = subst T (bits.has-both word to x) b in
+            let q = below.any-e _ _ (subst T (is x) (and-l (hasBit word x) _ c)) in
+            let d = q .2 in
+            let e : other .to (q .0) ≡ x = eqb→eq _ _ (search (and-l, and-r)) in
+            let g : T (related s (other .to (q .0))) = rw e (subst T (rel x) (and-r (hasBit word x) _ c)) in
+            (q .0, q .1, search (and-i, and-l, and-r), e)
 
-  entered-i : (P : ℕ → Bool) (word to : ℕ) (own-state : ℕ)
-      → ((x : ℕ) → hasBit word x ≡ anyBelow (other .steps) (λ k. eqb (other .from k) t && P k && eqb (other .to k) x))
-      → ((x : ℕ) → hasBit to x ≡ related own-state x) → (k : ℕ) → k < other .steps → other .from k ≡ t → T (P k) → T (related own-state (other .to k))
-      → T (hasBit (bitAnd word to) (other .to k))
-  entered-i P word to s is rel k l e p h =
-      let x = other .to k in
-      let y = eqb-refl x in
-      let b : T (hasBit word x) = subst T (sym (is x)) (below.any-i _ _ k l (search (and-i, eq→eqb))) in
-      let c : T (hasBit to x) = subst T (sym (rel x)) h in
-      subst T (sym (bits.has-both word to x)) (and-i (hasBit word x) (hasBit to x) b c)
+        told : (x : ℕ) → Enters other (λ k. eqb (other .from k) t && P k && related s (other .to k)) x → T (hasBit (bitAnd word to) x)
+        told x q =
+            let d = q .2 in
+            let e = eq→eqb _ _ (q .3) in
+            let g : T (related s (other .to (q .0))) = search (and-l, and-r) in
+            let b : T (hasBit word x) = subst T (sym (is x)) (below.any-i _ _ (q .0) (q .1) (search (and-i, and-l, and-r))) in
+            let c : T (hasBit to x) = subst T (sym (rel x)) (rw (q .3) at g) in
+            subst T (sym (bits.has-both word to x)) (and-i (hasBit word x) (hasBit to x) b c)
 
-  answer-is : ltb (firstBit (bitAnd (f .serving .0) (f .to .0))) 64 ≡ is2a v j t
-  answer-is =
-      let w = bits.both-word (f .serving .0) (f .to .0) (faces .serving<) in
-      same-T _ _
-      (λ h.
-      let s = some-e _ w h in
-      let q = entered-e (serves j) (f .serving .0) (f .to .0) (own .to j) (faces .serving) (faces .related-to) (s .0) (s .1) in
-      is2a-i v j t (q .0, q .1, q .2, q .3, q .5))
-      (λ h.
-      let q = is2a-e v j t h in
-      some-i _ w _ (entered-i (serves j) (f .serving .0) (f .to .0) (own .to j) (faces .serving) (faces .related-to) (q .0) (q .1) (q .2) (q .3) (q .4)))
+  answer-tells : Tells other (meets2a v j t) (hasBit (bitAnd (f .serving .0) (f .to .0)))
+  answer-tells = both-tell (serves j) (f .serving .0) (f .to .0) (own .to j) (faces .serving) (faces .related-to) (faces .serving<)
+
+  ahead-tells : Tells other (λ k. eqb (other .from k) t && other .silent k && related (own .from j) (other .to k)) (hasBit (bitAnd (f .silent .0) (f .from .0)))
+  ahead-tells = both-tell (other .silent) (f .silent .0) (f .from .0) (own .from j) (faces .silent) (faces .related-from) (faces .silent<)
 
   stays-is : staysAt f t ≡ stays v j t
   unfolding staysAt
   stays-is = ap₂ _&&_ (faces .quiet) (faces .related-to t)
-
-  ahead-is : ltb (firstBit (bitAnd (f .silent .0) (f .from .0))) 64 ≡ ahead v (own .from j) t
-  unfolding ahead
-  ahead-is =
-      let w = bits.both-word (f .silent .0) (f .from .0) (faces .silent<) in
-      same-T _ _
-      (λ h.
-      let s = some-e _ w h in
-      let q = entered-e (other .silent) (f .silent .0) (f .from .0) (own .from j) (faces .silent) (faces .related-from) (s .0) (s .1) in
-      let a = q .2 in
-      let b = q .3 in
-      let c = q .5 in
-      below.any-i _ _ (q .0) (q .1) (search (and-i, eq→eqb)))
-      (λ h.
-      let q = below.any-e _ _ h in
-      let a = q .2 in
-      some-i _ w _ (entered-i (other .silent) (f .silent .0) (f .from .0) (own .from j) (faces .silent) (faces .related-from)
-      (q .0) (q .1) (eqb→eq _ _ (search (and-l, and-r))) (search (and-l, and-r)) (search (and-l, and-r))))
 
   module _ (before after : ℕ) (ranks : List ℕ) (ranked : Ranked v r j t before after ranks) where
     stutter-is : (staysAt f t && ltb after before) ≡ is2b v r j t
     unfolding is2b
     stutter-is = ap₂ _&&_ stays-is (ap₂ ltb (ranked .after-is) (ranked .before-is))
 
-    match-is : ltb (firstFalling (bitAnd (f .silent .0) (f .from .0)) ranks t) 64 ≡ is2c v r j t
-    match-is =
-        let w = bits.both-word (f .silent .0) (f .from .0) (faces .silent<) in
-        same-T _ _
-        (λ h.
-        let s = falling-e _ w ranks t h in
-        let q = entered-e (other .silent) (f .silent .0) (f .from .0) (own .from j) (faces .silent) (faces .related-from) (s .0) (s .1) in
-        is2c-i v r j t (q .0, q .1, q .2, q .3, q .5, rw (q .4, ← (ranked .ranks-are (s .0)), ← (ranked .ranks-are t)) (s .2)))
-        (λ h.
-        let q = is2c-e v r j t h in
-        falling-i _ w ranks t _
-        (entered-i (other .silent) (f .silent .0) (f .from .0) (own .from j) (faces .silent) (faces .related-from) (q .0) (q .1) (q .2) (q .3) (q .4))
-        (rw (ranked .ranks-are (other .to (q .0)), ranked .ranks-are t) (q .5)))
+    falls-is : (x : ℕ) → falls ranks t x ≡ ltb (r .match j x) (r .match j t)
+    falls-is x = ap₂ ltb (ranked .ranks-are x) (ranked .ranks-are t)
+
+    match-tells : Tells other (meets2c v r j t) (λ x. hasBit (bitAnd (f .silent .0) (f .from .0)) x && falls ranks t x)
+    match-tells = record { entered = entered; told = told; small = λ x p. ahead-tells .small x (and-l (hasBit set x) _ p) }
+      where
+        set : ℕ
+        set = bitAnd (f .silent .0) (f .from .0)
+
+        entered : (x : ℕ) → T (hasBit set x && falls ranks t x) → Enters other (meets2c v r j t) x
+        entered x p =
+            let q = ahead-tells .entered x (and-l (hasBit set x) _ p) in
+            let d = q .2 in
+            let g : T (ltb (r .match j (other .to (q .0))) (r .match j t)) = rw (q .3) (subst T (falls-is x) (and-r (hasBit set x) _ p)) in
+            (q .0, q .1, search and-i, q .3)
+
+        told : (x : ℕ) → Enters other (meets2c v r j t) x → T (hasBit set x && falls ranks t x)
+        told x q =
+            let d = q .2 in
+            let g : T (ltb (r .match j (other .to (q .0))) (r .match j t)) = search (and-l, and-r) in
+            and-i (hasBit set x) _ (ahead-tells .told x (q .0, q .1, search (and-i, and-l), q .3)) (subst T (sym (falls-is x)) (rw (q .3) at g))
 
     -- on the words and ranks of a step the outcome is the theory's
     pub obligation-is : obligationOf f t before after ranks ≡ obligationAt v r j t
-    unfolding obligationOf withoutStep obligationAt outcomeOf isApart
-    obligation-is = rw (answer-is, stutter-is, match-is, stays-is, ahead-is)
+    unfolding obligationOf withoutStep obligationAt isApart ahead is2a is2c firstBit firstFalling
+    obligation-is =
+        rw (tells-some _ _ _ answer-tells, stutter-is, tells-some _ _ _ match-tells, stays-is, tells-some _ _ _ ahead-tells)
+        (same-outcome (is2a v j t) (is2b v r j t) (is2c v r j t) (isApart v j t) t (tells-smallest _ _ _ answer-tells) (tells-smallest _ _ _ match-tells))

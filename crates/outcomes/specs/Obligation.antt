@@ -1,14 +1,14 @@
 -- One obligation (document 01, Duties and clauses): its outcome by the theory's tests, and the same on words of states.
-use Prim.Native.Nat.{ℕ}
-use mathlib.Core.Bool.{Bool, false, cond, not, _&&_}
+use Prim.Native.Nat.{ℕ, suc}
+use mathlib.Core.Bool.{Bool, cond, not, _&&_}
 use mathlib.Core.List.{List}
 use lib.Bits.{bitAnd}
-use lib.Dec.{ltb}
-use Rattle.lists.specs.Below.{firstBelow}
+use lib.Dec.{ltb, eqb}
+use Rattle.lists.specs.Below.{anyBelow, firstBelow, mostBelow}
 use Rattle.lists.specs.Numbers.{byteAt}
 use Rattle.words.specs.Bits.{hasBit, firstBit}
-use Rattle.bisimulation.specs.Systems.{View, Ranks, stays}
-use Rattle.bisimulation.specs.Judge.{is2a, is2b, is2c}
+use Rattle.bisimulation.specs.Systems.{System, View, Ranks, stays}
+use Rattle.bisimulation.specs.Judge.{meets2a, meets2c, is2a, is2b, is2c}
 use Rattle.bisimulation.specs.Triples.{ahead}
 use Rattle.tables.specs.Table.{maxStates}
 use Rattle.outcomes.specs.declared.Clause.{Clause}
@@ -30,17 +30,25 @@ abbrev pub failureNumber : Failure → ℕ
 failureNumber Apart = 18
 failureNumber Rank = 19
 
--- It is met by the first of 2a, 2b and 2c that holds; else it failed, with 18 where the two are apart and 19 otherwise.
-unfoldable pub outcomeOf : Bool → Bool → Bool → Bool → Outcome
-outcomeOf a b c apart = cond a (Met Step) (cond b (Met Stutter) (cond c (Met Match) (cond apart (Failed Apart) (Failed Rank))))
+-- The smallest state that some step which passes the test enters. None enters a state above the greatest of their ends, so none is looked at.
+unfoldable pub smallestEntered : System → (ℕ → Bool) → ℕ
+smallestEntered S test = firstBelow (suc (mostBelow (S .steps) (S .to))) (λ x. anyBelow (S .steps) (λ k. test k && eqb (S .to k) x))
+
+-- Where 2a does not hold: it is met by 2b, with the state t, or else by 2c, with the state x, or else it failed, with 18 where the two are apart and 19
+-- otherwise.
+unfoldable pub outcomeAfter2a : (by2b : Bool) → ℕ → (by2c : Bool) → ℕ → (apart : Bool) → Outcome
+outcomeAfter2a b t c x apart = cond b (Met Stutter t) (cond c (Met Match x) (cond apart (Failed Apart) (Failed Rank)))
 
 -- Where 18 fits: u, t unrelated (or the step not silent), and no silent step from t to a state related to s.
 unfoldable pub isApart : View → ℕ → ℕ → Bool
 isApart v j t = not (stays v j t) && not (ahead v (v .own .from j) t)
 
--- The outcome of the obligation of the own step j at t.
+-- The outcome of the obligation of the own step j at t: it is met by the first of 2a, 2b and 2c that holds, with the smallest state that serves, which
+-- for 2b is t itself.
 unfoldable pub obligationAt : View → Ranks → ℕ → ℕ → Outcome
-obligationAt v r j t = outcomeOf (is2a v j t) (is2b v r j t) (is2c v r j t) (isApart v j t)
+obligationAt v r j t =
+    cond (is2a v j t) (Met Step (smallestEntered (v .other) (meets2a v j t)))
+    (outcomeAfter2a (is2b v r j t) t (is2c v r j t) (smallestEntered (v .other) (meets2c v r j t)) (isApart v j t))
 
 -- ---- on words
 
@@ -56,9 +64,11 @@ staysAt f t = f .quiet && hasBit (f .to .0) t
 unfoldable pub withoutStep : Facing → ℕ → ℕ → ℕ → List ℕ → Outcome
 withoutStep f t before after ranks =
     let set = bitAnd (f .silent .0) (f .from .0) in
-    outcomeOf false (staysAt f t && ltb after before) (ltb (firstFalling set ranks t) maxStates) (not (staysAt f t) && not (ltb (firstBit set) maxStates))
+    outcomeAfter2a (staysAt f t && ltb after before) t (ltb (firstFalling set ranks t) maxStates) (firstFalling set ranks t)
+    (not (staysAt f t) && not (ltb (firstBit set) maxStates))
 
 -- The outcome, where the words have the states that the theory's tests speak of.
 unfoldable pub obligationOf : Facing → ℕ → ℕ → ℕ → List ℕ → Outcome
 obligationOf f t before after ranks =
-    cond (ltb (firstBit (bitAnd (f .serving .0) (f .to .0))) maxStates) (Met Step) (withoutStep f t before after ranks)
+    let state = firstBit (bitAnd (f .serving .0) (f .to .0)) in
+    cond (ltb state maxStates) (Met Step state) (withoutStep f t before after ranks)

@@ -21,9 +21,9 @@ pub enum Failure {
     Rank,
 }
 
-// The outcome of an obligation.
+// The outcome of an obligation: the clause that meets it, with the smallest state of the other side that serves, or why it fails.
 pub enum Outcome {
-    Met(Clause),
+    Met(Clause, usize),
     Failed(Failure),
 }
 
@@ -110,12 +110,13 @@ pub fn without_step(facing: Facing, t: usize, before: usize, after: usize, ranks
     ensures { λ r. ⌜ r ≡ withoutStep facing t before after (now (ranks .entry)) ⌝ }
 {
     if meets_2b(facing, t, before, after) {
-        return Outcome::Met(Clause::Stutter);
+        return Outcome::Met(Clause::Stutter, t);
     }
     let silent = facing.silent;
     let ahead = silent.intersect(facing.from);
-    if falling_state(ahead, ranks, t) < Head::MAX_STATES {
-        return Outcome::Met(Clause::Match);
+    let state = falling_state(ahead, ranks, t);
+    if state < Head::MAX_STATES {
+        return Outcome::Met(Clause::Match, state);
     }
     if stays(facing, t) {
         return Outcome::Failed(Failure::Rank);

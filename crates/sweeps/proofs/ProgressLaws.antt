@@ -25,14 +25,14 @@ module _ (ys : List (Verdict Finding)) where
   unfolding progress along
   progress-on [] y z e = ap (progress ys) (cc e)
   progress-on (goOn nothing ∷ xs) y z e = progress-on xs y z e
-  progress-on (goOn (metBy clause) ∷ xs) y z e = progress-on xs (addTo y clause) z e
+  progress-on (goOn (metBy clause x) ∷ xs) y z e = progress-on xs (addTo y clause) z e
   progress-on (refusedWith answer ∷ xs) y z e = absurd (on-not-stop (sym e))
 
   pub progress-stop : (xs : List (Verdict Finding)) (y : Tally) (a : Answer) → progress xs y ≡ Stop a → progress (xs ++ ys) y ≡ Stop a
   unfolding progress along
   progress-stop [] y a e = absurd (on-not-stop e)
   progress-stop (goOn nothing ∷ xs) y a e = progress-stop xs y a e
-  progress-stop (goOn (metBy clause) ∷ xs) y a e = progress-stop xs (addTo y clause) a e
+  progress-stop (goOn (metBy clause x) ∷ xs) y a e = progress-stop xs (addTo y clause) a e
   progress-stop (refusedWith answer ∷ xs) y a e = e
 
 -- one more is counted
@@ -46,7 +46,7 @@ pub progress-total : (xs : List (Verdict Finding)) (y z : Tally) → progress xs
 unfolding progress along
 progress-total [] y z e = let q : y ≡ z = cc e in rw q (omega arith)
 progress-total (goOn nothing ∷ xs) y z e = omega (arith, progress-total xs y z e)
-progress-total (goOn (metBy clause) ∷ xs) y z e = omega (arith, progress-total xs (addTo y clause) z e, add-total y clause)
+progress-total (goOn (metBy clause x) ∷ xs) y z e = omega (arith, progress-total xs (addTo y clause) z e, add-total y clause)
 progress-total (refusedWith answer ∷ xs) y z e = absurd (on-not-stop (sym e))
 
 -- the answer at the end is that of the verdict

@@ -11,7 +11,8 @@ use Rattle.answers.proofs.VerdictLaws.{then-on, on-none}
 use Rattle.outcomes.specs.declared.Clause.{Clause}
 use Rattle.outcomes.specs.declared.Clause.the-variants.{Step, Stutter, Match}
 use Rattle.obligations.specs.Judging.{Check, labelsOf, leftStep, rightStep, Finding, nothing, metBy, checkVerdict, isObligation, countObligations}
-use Rattle.obligations.specs.CheckCauses.{MetFirstBy, CheckMetBy}
+use Rattle.obligations.specs.Outcomes.{MetFirstBy}
+use Rattle.obligations.specs.CheckCauses.{CheckMetBy}
 use Rattle.obligations.proofs.JudgingLaws.{Found, check-decided}
 use Rattle.sweeps.specs.declared.Tally.{Tally}
 use Rattle.sweeps.specs.Tallies.{countOf, total, addTo, counted, tallied}
@@ -39,15 +40,15 @@ module _ (v : View) (r : Ranks) where
   found-counts clause (labelsOf s t) y nothing e = inr (λ q. q, refl)
   found-counts clause (leftStep s t j) y nothing e = absurd (omega (arith, e))
   found-counts clause (rightStep s t j) y nothing e = absurd (omega (arith, e))
-  found-counts clause (labelsOf s t) y (metBy k) p = absurd p
-  found-counts clause (leftStep s t j) y (metBy k) p = first-only v r j t y k clause p
-  found-counts clause (rightStep s t j) y (metBy k) p = first-only (flip v) (swap r) j s y k clause p
+  found-counts clause (labelsOf s t) y (metBy k x) p = absurd p
+  found-counts clause (leftStep s t j) y (metBy k x) p = first-only v r j t y k clause (p .0)
+  found-counts clause (rightStep s t j) y (metBy k x) p = first-only (flip v) (swap r) j s y k clause (p .0)
 
   found-total : (c : Check) (y : Tally) (f : Finding) → Found v r c f → total (counted y f) ≡ total y + isObligation c
   found-total c y nothing e = omega (arith, e)
-  found-total (labelsOf s t) y (metBy k) p = absurd p
-  found-total (leftStep s t j) y (metBy k) p = add-total y k
-  found-total (rightStep s t j) y (metBy k) p = add-total y k
+  found-total (labelsOf s t) y (metBy k x) p = absurd p
+  found-total (leftStep s t j) y (metBy k x) p = add-total y k
+  found-total (rightStep s t j) y (metBy k x) p = add-total y k
 
   -- the finding of a check that goes on
   finding : (c : Check) (y z : Tally) → tallied (checkVerdict v r c) y ≡ goOn z → (f : Finding) × (counted y f ≡ z) × Found v r c f

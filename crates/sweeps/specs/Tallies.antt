@@ -29,7 +29,7 @@ addTo y Match = record { steps = y .steps; stutters = y .stutters; matches = y .
 -- What a check has found is counted.
 abbrev pub counted : Tally → Finding → Tally
 counted y nothing = y
-counted y (metBy clause) = addTo y clause
+counted y (metBy clause x) = addTo y clause
 
 abbrev pub tallied : Verdict Finding → Tally → Verdict Tally
 tallied verdict y = verdict andThen λ found. goOn (counted y found)

@@ -75,7 +75,7 @@ fn sweep(
     while j < Head::MAX_STEPS {
         let outcome = obligation_at(ours, theirs, certificate, run, j, t);
         match outcome {
-            Outcome::Met(clause) => {
+            Outcome::Met(clause, _) => {
                 met = met.add(clause);
             }
             Outcome::Failed(failure) => {

@@ -1,7 +1,7 @@
 -- `outcomes::without_step` meets its contract: each return is the first of the definition's tests that passes, the
 -- ones before it having failed. Assumes nothing.
 use Prim.Native.Nat.{ℕ}
-use mathlib.Core.Path.{_≡_, refl, sym, ap, ap₂, _∙_}
+use mathlib.Core.Path.{_≡_, sym, ap, ap₂, _∙_}
 use mathlib.Core.Bool.{Bool, false, not, _&&_}
 use lib.Bits.{bitAnd}
 use lib.Dec.{ltb}
@@ -9,6 +9,8 @@ use denote.Ref.{now}
 use borrow.Author.Needs.{needs}
 use borrow.Author.Tests.{lt-ltb, le-ltb}
 use Rattle.words.specs.Bits.{firstBit}
+use Rattle.outcomes.specs.declared.Clause.the-variants.{Match}
+use Rattle.outcomes.specs.declared.Outcome.the-variants.{Met}
 use Rattle.outcomes.specs.Obligation.{firstFalling, staysAt, withoutStep}
 use Rattle.outcomes.proofs.ObligationLaws.{outcome-stutter, outcome-match, outcome-apart, outcome-rank}
 use Rattle.outcomes.proofs.without_step.Statement.{statement}
@@ -41,7 +43,7 @@ meets-2b-requires c κs = search needs
 
 returns : tie.Need-returns
 unfolding withoutStep
-returns c = sym (outcome-stutter _ _ _ _ refl (sym (c .before .meets-2b .ensures) ∙ c .if1 .taken))
+returns c = sym (outcome-stutter _ _ _ _ _ (sym (c .before .meets-2b .ensures) ∙ c .if1 .taken))
 
 intersect-requires : tie.Need-intersect-requires
 intersect-requires c κs = search needs
@@ -53,7 +55,8 @@ returns-2 : tie.Need-returns-2
 unfolding withoutStep
 returns-2 c =
     let e2 = c .before .before .before .before in
-    sym (outcome-match _ _ _ _ refl (stutter-fails e2) (ap (λ (x : ℕ). ltb x 64) (sym (falling-is (c .before))) ∙ lt-ltb _ 64 (c .if2 .taken)))
+    ap (Met Match) (falling-is (c .before))
+    ∙ sym (outcome-match _ _ _ _ _ (stutter-fails e2) (ap (λ (x : ℕ). ltb x 64) (sym (falling-is (c .before))) ∙ lt-ltb _ 64 (c .if2 .taken)))
 
 stays-requires : tie.Need-stays-requires
 stays-requires c κs = search needs
@@ -65,7 +68,7 @@ returns-3 c =
     let e2 = e3 .before .before .before .before in
     let a = e2 .before .before .before .args in
     let set = bitAnd (a .facing .silent .0) (a .facing .from .0) in
-    sym (outcome-rank _ _ _ _ refl (stutter-fails e2) (match-fails e3)
+    sym (outcome-rank _ _ _ _ _ (stutter-fails e2) (match-fails e3)
     (ap (λ (b : Bool). not b && not (ltb (firstBit set) 64)) (sym (c .before .stays .ensures) ∙ c .if3 .taken)))
 
 first-requires : tie.Need-first-requires
@@ -77,7 +80,7 @@ returns-4 c =
     let e4 = c .before .before in
     let e3 = e4 .before .before in
     let e2 = e3 .before .before .before .before in
-    sym (outcome-rank _ _ _ _ refl (stutter-fails e2) (match-fails e3)
+    sym (outcome-rank _ _ _ _ _ (stutter-fails e2) (match-fails e3)
     (ap₂ (λ (b d : Bool). not b && not d) (sym (e4 .before .stays .ensures) ∙ e4 .if3 .left)
     (ap (λ (x : ℕ). ltb x 64) (sym (first-is (c .before))) ∙ lt-ltb _ 64 (c .if4 .taken))))
 
@@ -87,7 +90,7 @@ returns-5 c =
     let e4 = c .before .before in
     let e3 = e4 .before .before in
     let e2 = e3 .before .before .before .before in
-    sym (outcome-apart _ _ _ _ refl (stutter-fails e2) (match-fails e3)
+    sym (outcome-apart _ _ _ _ _ (stutter-fails e2) (match-fails e3)
     (ap₂ (λ (b d : Bool). not b && not d) (sym (e4 .before .stays .ensures) ∙ e4 .if3 .left)
     (ap (λ (x : ℕ). ltb x 64) (sym (first-is (c .before))) ∙ le-ltb _ 64 (c .if4 .left))))
 

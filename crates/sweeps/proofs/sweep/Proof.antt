@@ -64,7 +64,7 @@ returns-2 c =
     let l = n .before .before .before .before .before .before .before .loop in
     let outcome = sym (n .before .before .before .before .before .obligation-at .ensures) ∙ n .before .before .before .outcome .given .1 in
     let none = next-none (now (a .ours)) (l .j) (n .next .ensures) (c .if1 .taken) in
-    let w = step-met (now (a .ours)) (now (a .theirs)) (now (a .certificate)) (a .run) (a .place) (a .tally) (l .met) (l .j) (l .inv) _ (omega arith) outcome
+    let w = step-met (now (a .ours)) (now (a .theirs)) (now (a .certificate)) (a .run) (a .place) (a .tally) (l .met) (l .j) (l .inv) _ _ (omega arith) outcome
     (n .before .add .ensures) none in
     sym (sweep-end (now (a .ours)) (now (a .theirs)) (now (a .certificate)) (a .run) (a .place) (a .tally) _ 256 w (omega arith))
 
@@ -78,7 +78,7 @@ loop-again c =
     let l = n .before .before .before .before .before .before .before .loop in
     let outcome = sym (n .before .before .before .before .before .obligation-at .ensures) ∙ n .before .before .before .outcome .given .1 in
     let later = next-later (now (a .ours)) (l .j) (n .next .ensures) (c .if1 .left) in
-    step-met (now (a .ours)) (now (a .theirs)) (now (a .certificate)) (a .run) (a .place) (a .tally) (l .met) (l .j) (l .inv) _ (omega arith) outcome
+    step-met (now (a .ours)) (now (a .theirs)) (now (a .certificate)) (a .run) (a .place) (a .tally) (l .met) (l .j) (l .inv) _ _ (omega arith) outcome
     (n .before .add .ensures) later
 
 returns-3 : tie.Need-returns-3 Inv-loop μ-loop
