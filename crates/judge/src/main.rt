@@ -2,42 +2,9 @@
 use answers::Answer;
 ghost use mathlib.Core.Path.{_≡_};
 ghost use mathlib.Core.List.{List};
-ghost use Prim.Native.Nat.{ℕ, _≤_};
-ghost use lib.ListN.{length, take};
-ghost use Rattle.pieces.specs.Pieces.{pieceOf, ReadCall, ReadOut};
+ghost use Prim.Native.Nat.{ℕ};
+ghost use Rattle.pieces.specs.Pieces.{pieceOf, ReadOut};
 ghost use Rattle.checker.specs.Judge.{judgeAnswer};
-
-// The most bytes that three pieces and their lengths have: 3 times 2 + 65,535.
-const MOST: usize = 196611;
-
-// The one call of `read`, on standard input; answers what it answered.
-fn read_once(places: &mut [u8]) -> isize
-    ensures { λ r. ⌜ ReadCall (length (now (places .entry))) r (now (places .exit)) ⌝ }
-{
-    libc::read(0, places)
-}
-
-// Reads until the three pieces are there or the input ends, never past the third piece, and answers how many bytes came.
-fn read_input(input: &mut [u8]) -> usize
-    requires { ⌜ 196611 ≤ length (now input) ⌝ }
-    ensures fits { λ r. ⌜ r ≤ length (now (input .exit)) ⌝ }
-    ensures read { λ r. ⌜ ReadOut (take r (now (input .exit))) ⌝ }
-{
-    let mut n: usize = 0;
-    loop {
-        let missing = pieces::missing(&input[..n]);
-        if missing == 0 {
-            return n;
-        }
-        let end = n + missing;
-        let part = &mut input[n..end];
-        let got = read_once(part);
-        if got <= 0 {
-            return n;
-        }
-        n += got as usize;
-    }
-}
 
 // The judge's answer to an input.
 fn answer_of(input: &[u8]) -> Answer
@@ -53,8 +20,8 @@ fn answer_of(input: &[u8]) -> Answer
 fn judge_input() -> Answer
     ensures { λ r. ⌜ ((s : List ℕ) × ReadOut s × (r ≡ judgeAnswer (pieceOf s 0) (pieceOf s 1) (pieceOf s 2))) ⌝ }
 {
-    let mut input = [0u8; MOST];
-    let n = read_input(&mut input);
+    let mut input = [0u8; standard_input::MOST];
+    let n = standard_input::read_pieces(&mut input);
     answer_of(&input[..n])
 }
 

@@ -34,7 +34,8 @@ unfoldable pub missingOf : List ℕ → ℕ
 missingOf s = wanted s - length s
 
 -- A call of `read` that was lent n places answered r, and then the places held t: r is -1, or how many bytes it put. No contract can name a call, so this
--- is only what the contract of `read` says of every call; the proof of the function whose body is the call, `judge::read_once`, is the one that makes it.
+-- is only what the contract of `read` says of every call; the proof of the function whose body is the call, `standard_input::read_once`, is the one that
+-- makes it.
 pub data ReadCall (n : ℕ) (r : ℤ) (t : List ℕ) : Type 0 where
   call : Moved n r → length t ≡ n → ReadCall n r t
 

@@ -1,10 +1,10 @@
--- `judge::read_once` meets its contract: it says of the call in its body what is assumed of `read`. Assumes nothing.
+-- `standard_input::read_once` meets its contract: it says of the call in its body what is assumed of `read`. Assumes nothing.
 use mir.Facts.{toZ-ofZ}
 use mir.Syntax.{w64}
 use borrow.Author.Needs.{needs, sfits-of}
 use Rattle.pieces.specs.Pieces.ReadCall.{call}
-use Rattle.judge.proofs.read_once.Statement.{statement}
-use Rattle.judge.proofs.read_once.Tie as tie
+use Rattle.standard_input.proofs.read_once.Statement.{statement}
+use Rattle.standard_input.proofs.read_once.Tie as tie
 
 read-requires : tie.Need-read-requires
 read-requires c κs = search needs
