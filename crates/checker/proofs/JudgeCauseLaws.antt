@@ -1,24 +1,27 @@
 -- The judge's verdict is decided by its causes: it refuses with the numbers of the first that applies, and goes on where none does. Assumes nothing.
 use Prim.Native.Nat.{ℕ}
+use mathlib.Core.Path.{_≡_, refl}
 use mathlib.Core.List.{List, _++_, flatMap}
 use Rattle.bisimulation.specs.Systems.{View, Ranks}
-use Rattle.answers.specs.Causes.{Cause, Numbered}
-use Rattle.answers.proofs.CauseLaws.{numbered-append, numbered-flat}
-use Rattle.answers.proofs.VerdictLaws.{Decided, Anything, decided-then, decided-along, decided-go}
+use Rattle.answers.specs.Causes.{Cause, NoCause, Numbered}
+use Rattle.answers.proofs.CauseLaws as causes
+use Rattle.answers.proofs.CauseLaws.{append-none, numbered-append, numbered-flat}
+use Rattle.answers.proofs.VerdictLaws.{Decided, Anything, decided-then, decided-along, decided-go, decided-answer}
 use Rattle.tables.specs.Table.{startOf}
 use Rattle.table_reader.specs.TableCauses.{tableCauses}
-use Rattle.table_reader.proofs.TableCauseLaws.{after-table, table-numbers}
+use Rattle.table_reader.specs.TableReading.{headOf}
+use Rattle.table_reader.proofs.TableCauseLaws.{after-table, table-numbers, none-good}
 use Rattle.certificates.specs.Layout.{sizesOf}
 use Rattle.certificates.specs.CertificateModel.{certifiedView, certifiedRanks}
 use Rattle.certificate_reader.specs.CertificateReading.{readCertificate}
 use Rattle.certificate_reader.specs.CertificateVerdicts.{certificateVerdict}
 use Rattle.certificate_reader.specs.CertificateCauses.{certificateCauses}
-use Rattle.certificate_reader.proofs.CertificateCauseLaws.{certificate-decided, certificate-numbers}
+use Rattle.certificate_reader.proofs.CertificateCauseLaws.{certificate-decided, certificate-numbers, certificate-none-good}
 use Rattle.obligations.specs.CheckCauses.{startsCauses, checkCauses}
 use Rattle.obligations.specs.Judging.{checks, startsVerdict, checkVerdict}
 use Rattle.obligations.proofs.JudgingLaws.{starts-decided, check-decided, check-numbers}
 use Rattle.sweeps.specs.Tallies.{none, counted, tallied}
-use Rattle.checker.specs.Judge.{judged, judgedBytes, judgeVerdict}
+use Rattle.checker.specs.Judge.{AllRead, judged, judgedBytes, judgeVerdict, judgeAnswer}
 use Rattle.checker.specs.JudgeCauses.{judgeCauses, judgeNumber}
 
 pub judged-decided : (v : View) (r : Ranks) (start start′ : ℕ)
@@ -60,3 +63,22 @@ module _ (left right c : List ℕ) where
         numbered-flat judgeNumber (checkCauses (certifiedView left right c) (certifiedRanks left right c))
             (check-numbers judgeNumber tt (certifiedView left right c) (certifiedRanks left right c)) (checks (certifiedView left right c)),
       )))
+
+  -- where the code is 0, no cause applies, and all three files are read
+  pub zero-none : judgeAnswer left right c .code ≡ 0 → NoCause (judgeCauses left right c)
+  unfolding judgeAnswer
+  zero-none e =
+      causes.zero-none (λ a. a .code ≡ 0) (judgeCauses left right c) (judgeAnswer left right c)
+      (decided-answer (λ a. a .code ≡ 0) _ (judgeVerdict left right c) judge-decided (λ y g n. refl)) judgeNumber judge-numbers (λ file h. h) (λ a z. z) e .0
+
+  pub zero-read : judgeAnswer left right c .code ≡ 0 → AllRead left right c (headOf left) (headOf right)
+  zero-read e =
+      let a = append-none (tableCauses 0 left) afterLeft (zero-none e) in
+      let b = append-none (tableCauses 1 right) afterRight (a .1) in
+      let d = append-none (certificateCauses 2 (sizesOf left right) c) afterCertificate (b .1) in
+      record {
+        sizes = sizesOf left right;
+        left-good = none-good 0 left (a .0);
+        right-good = none-good 1 right (b .0);
+        certificate-good = certificate-none-good 2 (sizesOf left right) c (d .0);
+      }

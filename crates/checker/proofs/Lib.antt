@@ -1,3 +1,4 @@
+pub mod SidesReadLaws
 pub mod JudgeReadLaws
 pub mod JudgeLaws
 pub mod JudgeCauseLaws

@@ -24,15 +24,15 @@ use Rattle.certificate_reader.specs.CertificateVerdicts.{certificateVerdict}
 use Rattle.outcomes.specs.declared.Clause.{Clause}
 use Rattle.outcomes.specs.declared.Clause.the-variants.{Step, Stutter, Match}
 use Rattle.obligations.specs.CheckCauses.{CheckMetBy}
-use Rattle.obligations.specs.Judging.{checks, startsVerdict}
+use Rattle.obligations.specs.Judging.{checks, startsVerdict, obligationsOf}
+use Rattle.obligations.proofs.CountLaws.{count-checks, obligations-most}
 use Rattle.sweeps.specs.Tallies.{none, countOf, acceptance}
 use Rattle.checker.specs.Judge.{pairsIn, judged, judgedBytes, judgeVerdict, judgeAnswer}
 use Rattle.checker.specs.JudgeCauses.{judgeCauses, judgeNumber}
 use Rattle.sweeps.specs.declared.Tally.{Tally}
 use Rattle.sweeps.proofs.TallyLaws.{along-counts, along-total}
 use Rattle.checker.proofs.JudgeCauseLaws.{judge-decided, judge-numbers}
-use Rattle.demands.specs.Demand1.{obligationsOf, Accepted, JudgeAnswers}
-use Rattle.demands.proofs.CountLaws.{count-checks, obligations-most}
+use Rattle.demands.specs.Demand1.{Accepted, JudgeAnswers}
 
 module _ (left right c : List ℕ) where
   pairs-are : pairsIn (rowsPart c (sizesOf left right)) (statesOf left) ≡ sumBelow (statesOf left) (λ s. countBits (rowOf (rowsPart c (sizesOf left right)) s))

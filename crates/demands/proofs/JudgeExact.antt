@@ -29,7 +29,7 @@ use Rattle.certificate_reader.proofs.CertificateCauseLaws.{certificate-none-goo
 use Rattle.obligations.proofs.JudgingLaws.{none-iff}
 use Rattle.checker.specs.Judge.{judgeAnswer}
 use Rattle.checker.specs.JudgeCauses.{judgeCauses}
-use Rattle.checker.proofs.JudgeReadLaws.{formed}
+use Rattle.checker.proofs.SidesReadLaws.{formed}
 use Rattle.checker.proofs.JudgeCauseLaws.{afterCertificate, afterRight, afterLeft}
 use Rattle.demands.specs.Demand2.{AllWellFormed, JudgeExact}
 use Rattle.demands.proofs.JudgeAnswers.{zero-accepted, accepted-zero}
@@ -40,8 +40,14 @@ module _ (left right c : List ℕ) (bytes : AreBytes c) where
   module _ (w : AllWellFormed left right c) where
     pub formed-view : WellFormed (view left right c)
     formed-view =
-        formed left right c (formed-good left (w .left-formed)) (formed-good right (w .right-formed))
-        (certificate-none-good 2 (sizesOf left right) c (w .certificate-formed)) bytes
+        formed left right c
+        (record {
+          sizes = sizesOf left right;
+          left-good = formed-good left (w .left-formed);
+          right-good = formed-good right (w .right-formed);
+          certificate-good = certificate-none-good 2 (sizesOf left right) c (w .certificate-formed);
+        })
+        bytes
 
     -- one start each: they are related
     starts-iff : (InitialRelated (view left right c) × InitialRelated (flip (view left right c)))

@@ -1,5 +1,4 @@
 -- The theorems, and the laws that they stand on.
-pub mod CountLaws
 pub mod JudgeAnswers
 pub mod JudgeExact
 pub mod AgreeLaws

@@ -2,13 +2,10 @@
 -- and place in the order fit, and then the output is untouched. The causes in their order are `judgeCauses` and `makerCauses`.
 use Prim.Native.Nat.{ℕ, _+_, _*_, _≤_}
 use mathlib.Core.Path.{_≡_}
-use mathlib.Core.Bool.{cond}
 use mathlib.Core.List.{List}
-use lib.Dec.{eqb}
-use Rattle.lists.specs.Below.{sumBelow, countBelow}
+use Rattle.lists.specs.Below.{sumBelow}
 use Rattle.lists.specs.Lists.{Counts}
 use Rattle.words.specs.Bits.{countBits}
-use Rattle.bisimulation.specs.Systems.{System, View}
 use Rattle.answers.specs.Numbers.{sixNumbers}
 use Rattle.answers.specs.Causes.{Answers}
 use Rattle.answers.specs.declared.Answer.{Answer}
@@ -16,20 +13,12 @@ use Rattle.tables.specs.Table.{statesOf, stepsOf}
 use Rattle.certificates.specs.Layout.{sizesOf, certificateLength, rowsPart, rowOf}
 use Rattle.certificates.specs.CertificateModel.{certifiedView as view, certifiedRanks as ranks}
 use Rattle.obligations.specs.CheckCauses.{CheckMetBy}
-use Rattle.obligations.specs.Judging.{checks}
+use Rattle.obligations.specs.Judging.{checks, obligationsOf}
 use Rattle.outcomes.specs.declared.Clause.the-variants.{Step, Stutter, Match}
 use Rattle.checker.specs.JudgeCauses.{judgeCauses}
 use Rattle.ranking.specs.MakerCauses.{makerCauses}
 
 -- ---- the judge
-
--- How many steps leave s.
-unfoldable pub degree : System → ℕ → ℕ
-degree S s = countBelow (S .steps) (λ j. eqb (S .from j) s)
-
--- The steps from s plus the steps from t, over all related pairs.
-unfoldable pub obligationsOf : View → ℕ
-obligationsOf v = sumBelow (v .own .states) (λ s. sumBelow (v .other .states) (λ t. cond (v .related s t) (degree (v .own) s + degree (v .other) t) 0))
 
 -- The answer of an accepted certificate: the related pairs, as a count of one bits, and the obligations met by 2a, 2b and 2c.
 pub record Accepted (left right c : List ℕ) (answer : Answer) : Type 0 where

@@ -5,3 +5,4 @@ pub mod RisingLaws
 pub mod NumberLaws
 pub mod FillLaws
 pub mod JoinLaws
+pub mod FlatLaws

@@ -1,4 +1,5 @@
 -- Laws of obligations.
 pub mod OutcomeLaws
 pub mod JudgingLaws
+pub mod CountLaws
 pub mod OnSidesLaws

@@ -7,7 +7,7 @@ use mathlib.Core.List.{List, [], _∷_}
 use native.Mathlib.Nat.{add-assoc, mul-le-mul}
 use native.Mathlib.Omega.{arith}
 use lib.Bits.{bitAnd}
-use lib.Dec.{ltb, eqb}
+use lib.Dec.{T, ltb, eqb}
 use lib.ListN.{length}
 use lib.Seq.{getD-drop}
 use borrow.Author.Tests.{lt-ltb, le-ltb}
@@ -15,7 +15,7 @@ use Rattle.lists.specs.Below.{anyBelow}
 use Rattle.lists.specs.Numbers.{byteAt}
 use Rattle.lists.proofs.BelowLaws.{any-cong}
 use Rattle.words.specs.Bits.{hasBit, firstBit}
-use Rattle.bisimulation.specs.Systems.{Ranks}
+use Rattle.bisimulation.specs.Systems.{View, Ranks, WellFormed, flip, swap}
 use Rattle.certificates.specs.declared.Sizes.{Sizes}
 use Rattle.certificates.specs.Layout.{alAt, arAt, clAt, crAt}
 use Rattle.certificates.proofs.LayoutLaws.{products-fit}
@@ -165,3 +165,28 @@ module _ (ours theirs certificate : List ℕ) (run : Run) (j t : ℕ) where
     pub obligation-in : obligationIn ours theirs certificate run j t ≡ obligationAt (viewIn ours theirs) r j t
     unfolding obligationIn
     obligation-in = obligation-is (viewIn ours theirs) r j t _ faces _ _ _ ranked
+
+-- ---- both sides
+
+-- Two sides and a certificate hold what is judged: the sides are linked and seen from either side the same, and the ranks stand at the two runs.
+pub record Holding (ours theirs certificate : List ℕ) (left right : Run) (r : Ranks) : Type 0 where
+  pub linked : Linked ours
+  pub linked′ : Linked theirs
+  pub formed : WellFormed (viewIn ours theirs)
+  pub turned : viewIn theirs ours ≡ flip (viewIn ours theirs)
+  pub ranks-at : RanksAt certificate left r
+  pub ranks-at′ : RanksAt certificate right (swap r)
+
+module _ (ours theirs certificate : List ℕ) (left right : Run) (r : Ranks) (holding : Holding ours theirs certificate left right r) (s t : ℕ)
+    (h : T (viewIn ours theirs .related s t)) (j : ℕ) where
+  pub left-outcome : j < systemIn ours .steps → obligationIn ours theirs certificate left j t ≡ obligationAt (viewIn ours theirs) r j t
+  left-outcome l =
+      let k = holding .formed .there .related< t s h in
+      obligation-in ours theirs certificate left j t r (holding .linked) (holding .linked′) (holding .ranks-at) (omega arith) l
+
+  pub right-outcome : j < systemIn theirs .steps
+      → obligationIn theirs ours certificate right j s ≡ obligationAt (flip (viewIn ours theirs)) (swap r) j s
+  right-outcome l =
+      let k = holding .formed .here .related< s t h in
+      obligation-in theirs ours certificate right j s (swap r) (holding .linked′) (holding .linked) (holding .ranks-at′) (omega arith) l
+      ∙ ap (λ (v : View). obligationAt v (swap r) j s) (holding .turned)

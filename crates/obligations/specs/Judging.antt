@@ -4,8 +4,9 @@ use Prim.Native.Nat.{ℕ, _+_}
 use mathlib.Core.Bool.{Bool, cond}
 use mathlib.Core.List.{List, [], _∷_, _++_, map}
 use lib.Dec.{eqb}
+use Rattle.lists.specs.Below.{sumBelow, countBelow}
 use Rattle.lists.specs.Lists.{joinBelow}
-use Rattle.bisimulation.specs.Systems.{View, Ranks, flip, swap, stepsFrom}
+use Rattle.bisimulation.specs.Systems.{System, View, Ranks, flip, swap, stepsFrom}
 use Rattle.answers.specs.Verdicts.{Verdict, goOn, refusedWith, passIf}
 use Rattle.outcomes.specs.Obligation.{failureNumber, obligationAt}
 use Rattle.obligations.specs.CheckAnswers.{startsAnswer, labelsAnswer, stepAnswer}
@@ -60,3 +61,11 @@ isObligation (rightStep s t j) = 1
 unfoldable pub countObligations : List Check → ℕ
 countObligations [] = 0
 countObligations (c ∷ cs) = isObligation c + countObligations cs
+
+-- How many steps leave s.
+unfoldable pub degree : System → ℕ → ℕ
+degree S s = countBelow (S .steps) (λ j. eqb (S .from j) s)
+
+-- The steps from s plus the steps from t, over all related pairs.
+unfoldable pub obligationsOf : View → ℕ
+obligationsOf v = sumBelow (v .own .states) (λ s. sumBelow (v .other .states) (λ t. cond (v .related s t) (degree (v .own) s + degree (v .other) t) 0))

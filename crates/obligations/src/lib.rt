@@ -16,7 +16,7 @@ use sides::related;
 use sides::to;
 use tables::Head;
 ghost use mathlib.Core.Path.{_≡_};
-ghost use Rattle.obligations.specs.CheckAnswers.{placeAnswer};
+ghost use Rattle.obligations.specs.CheckAnswers.{leftState, rightState, placeAnswer};
 ghost use Rattle.obligations.specs.OnSides.{startsIn, asChecked, leftRun, rightRun, stutterAt, matchRow, obligationIn};
 
 // Where the A ranks and the C ranks of a side begin in a certificate, and how many states the other side has. The widths are such that no sum of them
@@ -41,26 +41,30 @@ pub enum Checked {
 }
 
 impl Place {
+    // The left state of the pair.
+    pub fn left(self) -> usize
+        ensures { λ r. ⌜ r ≡ leftState self ⌝ }
+    {
+        if self.side == 0 { self.own } else { self.other }
+    }
+
+    // Its right state.
+    pub fn right(self) -> usize
+        ensures { λ r. ⌜ r ≡ rightState self ⌝ }
+    {
+        if self.side == 0 { self.other } else { self.own }
+    }
+
     // The answer with this code that names step j at the place.
     pub fn step_answer(self, code: usize, j: usize) -> Answer
         ensures { λ r. ⌜ r ≡ placeAnswer self code j ⌝ }
     {
-        if self.side == 0 {
-            return Answer {
-                code,
-                file: 2,
-                a: 0,
-                b: self.own,
-                c: self.other,
-                d: j,
-            };
-        }
         Answer {
             code,
             file: 2,
             a: self.side,
-            b: self.other,
-            c: self.own,
+            b: self.left(),
+            c: self.right(),
             d: j,
         }
     }

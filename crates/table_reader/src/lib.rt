@@ -36,8 +36,8 @@ pub fn magic_fits(s: &[u8], third: usize) -> bool
     byte(s, 2) == third
 }
 
-// What the header says.
-fn head_of(s: &[u8]) -> Head
+// What the header says, whether or not the table is good.
+pub fn head_of(s: &[u8]) -> Head
     ensures { λ r. ⌜ r ≡ headOf (now (s .entry)) ⌝ }
 {
     let none = Row::empty();

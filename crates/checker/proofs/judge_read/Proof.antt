@@ -28,11 +28,26 @@ answered c =
     let a = sizes .before .before .before .before .args in
     let p = sizes .before .before .before .before .pre in
     let bytes : AreBytes (now (a .certificate)) = λ i. omega (arith, sizes .before .shared-slice-known3 .given i) in
-    answers (now (a .left)) (now (a .right)) (now (a .certificate)) (p .left-good) (p .right-good) (p .certificate-good) bytes
-    (sizes .of .ensures) (words .before .before .rows .ensures) (words .row-words .ensures) (columns .column-words .ensures)
-    (ours .before .before .before .labels .ensures) (ours .before .before .steps .ensures) (theirs .before .before .before .labels2 .ensures)
-    (theirs .before .before .steps2 .ensures)
-    (ours .side-of .ensures) (theirs .side-of2 .ensures) (c .check-starts .ensures)
+    answers (now (a .left)) (now (a .right)) (now (a .certificate)) p bytes
+    (record {
+      rows = _;
+      columns = _;
+      labels = _;
+      steps = _;
+      labels′ = _;
+      steps′ = _;
+      sizes-is = sizes .of .ensures;
+      rows-is = words .before .before .rows .ensures;
+      words-is = words .row-words .ensures;
+      columns-is = columns .column-words .ensures;
+      labels-is = ours .before .before .before .labels .ensures;
+      steps-is = ours .before .before .steps .ensures;
+      labels-is′ = theirs .before .before .before .labels2 .ensures;
+      steps-is′ = theirs .before .before .steps2 .ensures;
+      ours-is = ours .side-of .ensures;
+      theirs-is = theirs .side-of2 .ensures;
+    })
+    (c .check-starts .ensures)
 
 of-requires : tie.Need-of-requires
 of-requires c κs = search needs

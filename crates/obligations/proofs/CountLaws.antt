@@ -14,8 +14,7 @@ use Rattle.lists.specs.Below.{sumBelow, countBelow}
 use Rattle.lists.specs.Lists.{joinBelow}
 use Rattle.lists.proofs.BelowLaws.{sum-cong, sum-le, sum-more}
 use Rattle.bisimulation.specs.Systems.{System, View, stepsFrom}
-use Rattle.obligations.specs.Judging.{Check, leftStep, rightStep, pairChecks, checksBy, checks, countObligations}
-use Rattle.demands.specs.Demand1.{degree, obligationsOf}
+use Rattle.obligations.specs.Judging.{Check, leftStep, rightStep, pairChecks, checksBy, checks, countObligations, degree, obligationsOf}
 
 -- ---- the obligations of the list of checks
 

@@ -1,0 +1,65 @@
+-- Where the judge accepts, the text that is read off the two sides is what the program prints, and the output has room for it. Assumes nothing.
+use Prim.Native.Nat.{ℕ, _≤_, zero-le}
+use mathlib.Core.Path.{_≡_, ap, ap₂, sym, _∙_}
+use mathlib.Core.List.{List, flatMap}
+use native.Mathlib.Omega.{arith}
+use lib.ListN.{length, take}
+use borrow.Author.Tests.{eq-eqb, ne-eqb}
+use Rattle.bisimulation.specs.Systems.{View}
+use Rattle.answers.specs.declared.Answer.{Answer}
+use Rattle.tables.specs.declared.Head.{Head}
+use Rattle.table_reader.specs.TableReading.{headOf}
+use Rattle.certificates.specs.declared.Sizes.{Sizes}
+use Rattle.certificates.specs.Layout.{sizesOf}
+use Rattle.certificates.specs.CertificateModel.{AreBytes, certifiedRanks}
+use Rattle.sides.specs.Views.{viewIn}
+use Rattle.sides.proofs.ViewLaws.{states-few, steps-few}
+use Rattle.obligations.specs.declared.Run.{Run}
+use Rattle.obligations.specs.OnSides.{leftRun, rightRun}
+use Rattle.checker.specs.Judge.{AllRead, judgeAnswer}
+use Rattle.checker.proofs.JudgeCauseLaws.{zero-read}
+use Rattle.checker.proofs.SidesReadLaws.{SidesMade, SidesRead, made-sizes, sides-read}
+use Rattle.texts.specs.Texts.{answerText, fitting}
+use Rattle.texts.specs.Wrote.{Wrote}
+use Rattle.texts.proofs.TextLaws.{written-front, fitting-room}
+use Rattle.lister.specs.Listing.{listing, lineText, printed}
+use Rattle.lister.specs.OnSides.{allText}
+use Rattle.lister.proofs.ListingLaws.{text-is, listing-short}
+
+-- what is written from the front on is read there
+pub wrote-front : (text : List ℕ) {end : ℕ} {before after : List ℕ} → Wrote text 0 end before after → take end after ≡ text
+wrote-front text {before = before} w =
+    ap₂ take (w .end-is) (w .after-is) ∙ written-front text 0 before zero-le
+
+module _ (left right c : List ℕ) where
+  -- on a refusal the six numbers are printed
+  pub refusal-text : {answer : Answer} {end : ℕ} {before after : List ℕ} → answer ≡ judgeAnswer left right c → (answer .code ≡ 0 → ⊥)
+      → 126 ≤ length before → Wrote (fitting (answerText answer) 0 before) 0 end before after → take end after ≡ printed left right c
+  unfolding printed
+  refusal-text {answer} {before = before} e n room w =
+      wrote-front (fitting (answerText answer) 0 before) w ∙ fitting-room (answerText answer) 0 before (omega arith)
+      ∙ rw e (sym (rw (ne-eqb _ 0 (λ q. n (ap (λ (a : Answer). a .code) e ∙ q)))))
+
+  module _ (zero : judgeAnswer left right c .code ≡ 0) (bytes : AreBytes c) {h k : Head} (eh : h ≡ headOf left) (ek : k ≡ headOf right) {z : Sizes}
+      {words ours theirs : List ℕ} (made : SidesMade left right c h k z words ours theirs) {own other : Run} (eo : own ≡ leftRun z) (eo′ : other ≡ rightRun z)
+    where
+      read : AllRead left right c h k
+      read = rw (eh, ek) (zero-read left right c zero)
+
+      sides : SidesRead left right c ours theirs
+      sides = sides-read left right c read made bytes
+
+      text-of : allText ours theirs c own other ≡ flatMap lineText (listing (viewIn ours theirs) (certifiedRanks left right c))
+      text-of =
+          rw (eo, eo′, made-sizes left right c read made)
+          (text-is ours theirs c (leftRun (sizesOf left right)) (rightRun (sizesOf left right)) (certifiedRanks left right c) (sides .holding))
+
+      pub accepted-text : allText ours theirs c own other ≡ printed left right c
+      unfolding printed
+      accepted-text =
+          text-of ∙ ap (λ (v : View). flatMap lineText (listing v (certifiedRanks left right c))) (sides .here) ∙ sym (rw (eq-eqb _ 0 zero))
+
+      pub accepted-short : length (allText ours theirs c own other) ≤ 557056
+      accepted-short =
+          rw text-of
+          (listing-short (viewIn ours theirs) (sides .holding .formed) (certifiedRanks left right c) (states-few ours) (states-few theirs) (steps-few ours) (steps-few theirs))

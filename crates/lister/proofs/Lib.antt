@@ -1,0 +1,5 @@
+-- Laws of the listing.
+pub mod PuttingLaws
+pub mod WalkTextLaws
+pub mod ListingLaws
+pub mod AcceptedLaws
