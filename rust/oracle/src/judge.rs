@@ -8,29 +8,36 @@ use crate::Answer;
 
 /// The six numbers of the judge.
 pub fn judge(left: &[u8], right: &[u8], certificate: &[u8]) -> Answer {
-    match accept(left, right, certificate) {
+    match accept(left, right, certificate, |_, _, _| {}) {
         Ok(answer) => answer,
         Err(refusal) => refusal,
     }
 }
 
 /// "The outcome of a duty is met, carrying which of the three clauses, or
-/// failed, carrying 18 or 19."
+/// failed, carrying 18 or 19." "The test of one duty shall say, beside the clause,
+/// the smallest state v that serves it, and t itself for 2b": the answering state.
 enum Outcome {
-    Met(Clause),
+    Met(Clause, usize),
     Failed(u64),
 }
 
 #[derive(Clone, Copy)]
-enum Clause {
+pub enum Clause {
     TwoA,
     TwoB,
     TwoC,
 }
 
 /// "The judge accepts with 0, 0, the related pairs as a count of one bits, and
-/// the duties met by 2a, 2b and 2c."
-fn accept(left: &[u8], right: &[u8], certificate: &[u8]) -> Result<Answer, Answer> {
+/// the duties met by 2a, 2b and 2c." Each duty met is told to `tell`, in judging
+/// order, with its clause and its answering state.
+pub fn accept(
+    left: &[u8],
+    right: &[u8],
+    certificate: &[u8],
+    mut tell: impl FnMut(Duty, Clause, usize),
+) -> Result<Answer, Answer> {
     let left = read_table(left, 0)?;
     let right = read_table(right, 1)?;
     let certificate = read_certificate(certificate, &left, &right)?;
@@ -47,7 +54,10 @@ fn accept(left: &[u8], right: &[u8], certificate: &[u8]) -> Result<Answer, Answe
             }
             Look::Duty(duty) => {
                 match outcome(&sides[duty.side], &certificate.ranks[duty.side], duty) {
-                    Outcome::Met(clause) => met[clause as usize] += 1,
+                    Outcome::Met(clause, answering) => {
+                        met[clause as usize] += 1;
+                        tell(duty, clause, answering);
+                    }
                     Outcome::Failed(code) => return Err(duty.refusal(code)),
                 }
             }
@@ -58,12 +68,12 @@ fn accept(left: &[u8], right: &[u8], certificate: &[u8]) -> Result<Answer, Answe
 
 /// "It is met by the first of these that holds"
 fn outcome(side: &Side, ranks: &Ranks, duty: Duty) -> Outcome {
-    if clause_2a(side, duty) {
-        Outcome::Met(Clause::TwoA)
+    if let Some(v) = clause_2a(side, duty) {
+        Outcome::Met(Clause::TwoA, v)
     } else if clause_2b(side, ranks, duty) {
-        Outcome::Met(Clause::TwoB)
-    } else if clause_2c(side, ranks, duty) {
-        Outcome::Met(Clause::TwoC)
+        Outcome::Met(Clause::TwoB, duty.t)
+    } else if let Some(v) = clause_2c(side, ranks, duty) {
+        Outcome::Met(Clause::TwoC, v)
     } else if fails_whatever_the_ranks(side, duty) {
         Outcome::Failed(18)
     } else {
@@ -71,12 +81,12 @@ fn outcome(side: &Side, ranks: &Ranks, duty: Duty) -> Outcome {
     }
 }
 
-/// "2a: some step t to v with u, v related."
-fn clause_2a(side: &Side, duty: Duty) -> bool {
+/// "2a: some step t to v with u, v related." Gives the smallest such v.
+fn clause_2a(side: &Side, duty: Duty) -> Option<usize> {
     side.other
-        .steps
-        .iter()
-        .any(|step| step.from == duty.t && side.related[duty.u][step.to])
+        .ends_from(duty.t)
+        .filter(|&v| side.related[duty.u][v])
+        .min()
 }
 
 /// "2b: u, t related, and the A rank of (u, t) below that of (s, t)."
@@ -85,22 +95,22 @@ fn clause_2b(side: &Side, ranks: &Ranks, duty: Duty) -> bool {
 }
 
 /// "2c: some step t to v with s, v related, and the C rank of this step at v
-/// below that at t." This step is the step s to u, whose number is j.
-fn clause_2c(side: &Side, ranks: &Ranks, duty: Duty) -> bool {
-    side.other.steps.iter().any(|step| {
-        step.from == duty.t
-            && side.related[duty.s][step.to]
-            && ranks.chase[duty.j][step.to] < ranks.chase[duty.j][duty.t]
-    })
+/// below that at t." This step is the step s to u, whose number is j. Gives the
+/// smallest such v.
+fn clause_2c(side: &Side, ranks: &Ranks, duty: Duty) -> Option<usize> {
+    side.other
+        .ends_from(duty.t)
+        .filter(|&v| side.related[duty.s][v])
+        .filter(|&v| ranks.chase[duty.j][v] < ranks.chase[duty.j][duty.t])
+        .min()
 }
 
 /// "duty unmet; u, t unrelated, no step from t to a state related to s"
 fn fails_whatever_the_ranks(side: &Side, duty: Duty) -> bool {
     let u_t_unrelated = !side.related[duty.u][duty.t];
-    let no_step_stays_with_s = !side
+    let some_step_stays_with_s = side
         .other
-        .steps
-        .iter()
-        .any(|step| step.from == duty.t && side.related[duty.s][step.to]);
-    u_t_unrelated && no_step_stays_with_s
+        .ends_from(duty.t)
+        .any(|v| side.related[duty.s][v]);
+    u_t_unrelated && !some_step_stays_with_s
 }

@@ -7,6 +7,7 @@
 
 mod certificate;
 mod judge;
+mod listing;
 mod maker;
 mod path;
 mod program;
@@ -17,9 +18,10 @@ pub mod tuned_maker;
 
 pub use certificate::Layout;
 pub use judge::judge;
+pub use listing::{list, listing_program, Line};
 pub use maker::{make, make_by_relaxing};
 pub use path::path_property;
-pub use program::program;
+pub use program::{pieces, program};
 pub use table::{Step, Table};
 
 /// "Six numbers: code, file, a, b, c, d."

@@ -1,16 +1,24 @@
 //! What the program prints.
 
 use crate::judge;
+use std::fmt::Write;
 
 /// "It reads standard input: three pieces (left, right, certificate), each after
 /// a two-byte length. [...] It prints the judge's six numbers in decimal, one
 /// space between, and a newline."
 pub fn program(input: &[u8]) -> String {
+    let [left, right, certificate] = pieces(input);
+    let mut text = String::new();
+    print_line(&mut text, judge(left, right, certificate));
+    text
+}
+
+/// Left, right and certificate; "later bytes are not read".
+pub fn pieces(input: &[u8]) -> [&[u8]; 3] {
     let (left, rest) = next_piece(input);
     let (right, rest) = next_piece(rest);
-    let (certificate, _) = next_piece(rest); // "later bytes are not read"
-    let numbers = judge(left, right, certificate).map(|number| number.to_string());
-    numbers.join(" ") + "\n"
+    let (certificate, _) = next_piece(rest);
+    [left, right, certificate]
 }
 
 /// The next piece, and what follows it. "A piece cut short is what is there; a
@@ -23,4 +31,13 @@ fn next_piece(input: &[u8]) -> (&[u8], &[u8]) {
     let length = input[0] as usize * 256 + input[1] as usize;
     let rest = &input[2..];
     rest.split_at(length.min(rest.len()))
+}
+
+/// Six numbers "in decimal, one space between, and a newline."
+pub fn print_line(text: &mut String, [first, others @ ..]: [u64; 6]) {
+    write!(text, "{first}").expect("a text takes all that is written");
+    for number in others {
+        write!(text, " {number}").expect("a text takes all that is written");
+    }
+    text.push('\n');
 }

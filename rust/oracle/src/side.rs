@@ -43,21 +43,20 @@ pub struct Duty {
 }
 
 impl Duty {
-    /// "2, a side, b left state, c right state, d step"
-    pub fn refusal(&self, code: u64) -> Answer {
+    /// "side, left state, right state, step": these four name a duty.
+    pub fn name(&self) -> [u64; 4] {
         let (left, right) = if self.side == 0 {
             (self.s, self.t)
         } else {
             (self.t, self.s)
         };
-        [
-            code,
-            2,
-            self.side as u64,
-            left as u64,
-            right as u64,
-            self.j as u64,
-        ]
+        [self.side, left, right, self.j].map(|number| number as u64)
+    }
+
+    /// "2, a side, b left state, c right state, d step"
+    pub fn refusal(&self, code: u64) -> Answer {
+        let [side, left, right, step] = self.name();
+        [code, 2, side, left, right, step]
     }
 }
 

@@ -31,6 +31,14 @@ impl Table {
             .collect()
     }
 
+    /// The states to which a state steps, in table order.
+    pub fn ends_from(&self, state: usize) -> impl Iterator<Item = usize> + '_ {
+        self.steps
+            .iter()
+            .filter(move |step| step.from == state)
+            .map(|step| step.to)
+    }
+
     /// "A dead end is a state with no step from it."
     pub fn is_dead_end(&self, state: usize) -> bool {
         self.steps.iter().all(|step| step.from != state)

@@ -1,7 +1,7 @@
 //! The bench examples of the scope document. The first tests hold the starred
-//! ones, byte by byte; the others follow.
+//! ones, byte by byte; the others follow, and then the listing.
 
-use oracle::{judge, make, path_property, program, tuned, Answer};
+use oracle::{judge, list, listing_program, make, path_property, program, tuned, Answer};
 
 const P: [u8; 17] = [
     0x54, 0x50, 0x54, 0x00, 0x01, 0x02, 0x00, 0x00, 0x02, // header
@@ -40,18 +40,51 @@ fn k_with(row0: u8, row1: u8, ar: u8, cl: u8) -> Vec<u8> {
     k
 }
 
-/// The plain judge, the tuned judge and the program must all say the same.
+/// Three pieces, each after its length.
+fn joined(pieces: [&[u8]; 3]) -> Vec<u8> {
+    let mut input = Vec::new();
+    for piece in pieces {
+        input.extend((piece.len() as u16).to_be_bytes());
+        input.extend(piece);
+    }
+    input
+}
+
+/// The plain judge, the tuned judge and the program must all say the same, and the
+/// listing program too, where it is a refusal.
 #[track_caller]
 fn judged(left: &[u8], right: &[u8], certificate: &[u8], expected: &str) {
     let spelled = |answer: Answer| answer.map(|number| number.to_string()).join(" ");
     assert_eq!(spelled(judge(left, right, certificate)), expected);
     assert_eq!(spelled(tuned::judge(left, right, certificate)), expected);
-    let mut input = Vec::new();
-    for piece in [left, right, certificate] {
-        input.extend((piece.len() as u16).to_be_bytes());
-        input.extend(piece);
-    }
+    let input = joined([left, right, certificate]);
     assert_eq!(program(&input), format!("{expected}\n"));
+    if let Err(refusal) = list(left, right, certificate) {
+        assert_eq!(spelled(refusal), expected);
+        assert_eq!(listing_program(&input), format!("{expected}\n"));
+    }
+}
+
+/// The listing program prints these lines.
+#[track_caller]
+fn listed(left: &[u8], right: &[u8], certificate: &[u8], lines: &[&str]) {
+    let printed: String = lines.iter().map(|line| format!("{line}\n")).collect();
+    assert_eq!(
+        listing_program(&joined([left, right, certificate])),
+        printed
+    );
+}
+
+/// The certificate that the maker writes for these rows.
+#[track_caller]
+fn certificate(left: &[u8], right: &[u8], rows: &[u8]) -> Vec<u8> {
+    let relation: Vec<u8> = rows
+        .iter()
+        .flat_map(|&row| [0, 0, 0, 0, 0, 0, 0, row])
+        .collect();
+    let (answer, output) = made(left, right, &relation, 1_000);
+    assert_eq!(answer[0], 0, "{answer:?}");
+    output[..answer[2] as usize].to_vec()
 }
 
 /// Calls the maker with an output full of 0xEE, and gives the answer and output.
@@ -269,4 +302,89 @@ fn pieces_of_the_program() {
     assert_eq!(program(&input), "0 0 3 4 1 1\n");
     input.pop();
     assert_eq!(program(&input), "14 2 0 0 0 0\n");
+}
+
+/// The lines that the change request names.
+#[test]
+fn the_listing_of_p_q_k() {
+    let lines = [
+        "0 0 0 0 3 1",
+        "1 0 0 0 2 0",
+        "0 0 1 0 1 2",
+        "1 0 1 1 1 1",
+        "0 1 2 1 1 0",
+        "1 1 2 2 1 0",
+    ];
+    listed(&P, &Q, &K, &lines);
+}
+
+/// "t itself for 2b": here s is 0, t is 1 and u is 2.
+#[test]
+fn t_answers_by_2b() {
+    let left = table(0, &[0, 0, 0], &[[0, 2]]);
+    let right = table(1, &[0, 0], &[]);
+    let made = certificate(&left, &right, &[0b10, 0, 0b10]);
+    listed(&left, &right, &made, &["0 0 1 0 2 1"]);
+
+    // The same with the sides exchanged.
+    let made = certificate(&right, &left, &[0, 0b101]);
+    listed(&right, &left, &made, &["1 1 0 0 2 1"]);
+}
+
+/// Right state 2 steps to 0 and to 1, both related to left state 0. The chase rank
+/// of the left step at 0 is 1, as at 2, so that 1 answers.
+#[test]
+fn by_2c_the_smallest_state_with_a_lower_rank_answers() {
+    let left = table(0, &[0, 1], &[[0, 1]]);
+    let right = table(2, &[0, 0, 0, 1], &[[2, 0], [2, 1], [1, 3], [0, 1]]);
+    let made = certificate(&left, &right, &[0b0111, 0b1000]);
+    let lines = [
+        "0 0 0 0 3 1",
+        "1 0 0 3 2 0",
+        "0 0 1 0 1 3",
+        "1 0 1 2 1 1",
+        "0 0 2 0 3 1",
+        "1 0 2 0 2 0",
+        "1 0 2 1 2 0",
+    ];
+    listed(&left, &right, &made, &lines);
+}
+
+/// Right state 0 steps to 3, to 2 and to 1, in this order: 1 answers.
+#[test]
+fn by_2a_the_smallest_state_answers() {
+    let left = table(0, &[0], &[[0, 0]]);
+    let steps = [[0, 3], [0, 2], [0, 1], [1, 1], [2, 2], [3, 3]];
+    let right = table(0, &[0; 4], &steps);
+    let made = certificate(&left, &right, &[0b1111]);
+    let lines = [
+        "0 0 0 0 1 1",
+        "1 0 0 0 1 0",
+        "1 0 0 1 1 0",
+        "1 0 0 2 1 0",
+        "0 0 1 0 1 1",
+        "1 0 1 3 1 0",
+        "0 0 2 0 1 2",
+        "1 0 2 4 1 0",
+        "0 0 3 0 1 3",
+        "1 0 3 5 1 0",
+    ];
+    listed(&left, &right, &made, &lines);
+}
+
+/// "On a refusal it prints the six numbers only": also where duties before the one
+/// refused are met.
+#[test]
+fn a_refusal_lists_nothing() {
+    listed(&P, &Q, &k_with(3, 4, 0, 1), &["19 2 1 0 0 0"]);
+    listed(&P, &Q, &K[..50], &["14 2 0 0 0 0"]);
+    listed(&P, &[], &K, &["1 1 0 0 0 0"]);
+}
+
+#[test]
+fn without_a_duty_nothing_is_printed() {
+    let still = table(0, &[0], &[]);
+    let made = certificate(&still, &still, &[1]);
+    judged(&still, &still, &made, "0 0 1 0 0 0");
+    listed(&still, &still, &made, &[]);
 }
