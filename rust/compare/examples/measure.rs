@@ -13,6 +13,9 @@ fn main() {
     run("50,000 inputs, program and itself", || {
         compare::program(50_000, 3, oracle::program)
     });
+    run("50,000 inputs, listing program and itself", || {
+        compare::listing(50_000, 4, oracle::listing_program)
+    });
 }
 
 fn run(what: &str, comparison: impl FnOnce() -> compare::Report) {

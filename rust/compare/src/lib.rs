@@ -2,11 +2,15 @@
 //! difference it panics with the input in hexadecimal; otherwise it reports what
 //! was seen.
 
+mod accepted;
+mod listing;
 mod names;
 mod path_property;
 mod report;
 
+pub use accepted::Accepted;
 use inputs::{JudgeCases, MakeCases, ProgramCases, Random, PROGRAM_FORMS, VERSIONS};
+pub use listing::listing;
 use names::{limit_names, mix_name, mix_names, name, names, size_names, table_codes};
 pub use path_property::Implementation;
 pub use report::Report;

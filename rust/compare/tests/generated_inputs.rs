@@ -1,7 +1,9 @@
 //! The oracle beside the tuned judge and maker and beside itself, on enough inputs
-//! that every number, side, clause and limit is seen.
+//! that every number, side, clause and limit is seen, and beside wrong ones.
 
+use compare::Accepted;
 use inputs::{all_related, long_chains, long_distances};
+use oracle::Line;
 
 #[test]
 fn the_tuned_judge_equals_the_plain_one() {
@@ -44,12 +46,21 @@ fn every_form_of_program_input_is_seen() {
 }
 
 #[test]
+fn every_choice_of_a_listing_is_seen() {
+    compare::listing(10_000, 9, oracle::listing_program).require_all();
+}
+
+#[test]
 fn the_same_seed_gives_the_same_inputs() {
     let first = compare::judge(3_000, 4, oracle::judge);
     let again = compare::judge(3_000, 4, oracle::judge);
     let other = compare::judge(3_000, 5, oracle::judge);
     assert_eq!(first.seen, again.seen);
     assert_ne!(first.seen, other.seen);
+
+    let inputs = |seed| inputs::ListingCases::new(seed, 3_000).map(|case| case.input);
+    assert!(inputs(4).eq(inputs(4)), "the inputs differ");
+    assert!(inputs(4).ne(inputs(5)), "the inputs are the same");
 }
 
 /// The answer of a judge that accepts everything is found out.
@@ -76,4 +87,128 @@ fn a_touched_output_is_found() {
 #[should_panic(expected = "never seen")]
 fn too_few_inputs_are_found() {
     compare::judge(20, 8, oracle::judge).require_all();
+}
+
+#[test]
+#[should_panic(expected = "never seen")]
+fn too_few_listings_are_found() {
+    compare::listing(20, 8, oracle::listing_program).require_all();
+}
+
+/// Compares a lister that puts other lines in place of those of an accepted input.
+fn list_wrongly(change: impl Fn(&Accepted, &mut Vec<Line>)) {
+    compare::listing(1_000, 10, |input| {
+        let Some(files) = Accepted::new(input) else {
+            return oracle::listing_program(input);
+        };
+        let [left, right, certificate] = oracle::pieces(input);
+        let mut lines = oracle::list(left, right, certificate).expect("the input is accepted");
+        change(&files, &mut lines);
+        let printed = |line: Line| line.map(|number| number.to_string()).join(" ") + "\n";
+        lines.into_iter().map(printed).collect()
+    });
+}
+
+/// Compares a lister that names another state in the lines with this clause.
+fn choose_wrongly(clause: u64, choose: impl Fn(&Accepted, Line) -> u64) {
+    list_wrongly(|files, lines| {
+        for line in lines.iter_mut().filter(|line| line[4] == clause) {
+            line[5] = choose(files, *line);
+        }
+    });
+}
+
+/// The lister above is right where it changes nothing.
+#[test]
+fn unchanged_lines_are_no_difference() {
+    list_wrongly(|_, _| {});
+}
+
+#[test]
+#[should_panic(expected = "the listing differs")]
+fn the_greatest_state_for_2a_is_found() {
+    choose_wrongly(1, |files, line| greatest(files.serving(line)));
+}
+
+#[test]
+#[should_panic(expected = "the listing differs")]
+fn the_greatest_state_for_2c_is_found() {
+    choose_wrongly(3, |files, line| greatest(files.serving(line)));
+}
+
+fn greatest(states: Vec<u64>) -> u64 {
+    states.into_iter().max().expect("some state serves")
+}
+
+#[test]
+#[should_panic(expected = "the listing differs")]
+fn the_end_of_the_first_step_for_2a_is_found() {
+    choose_wrongly(1, |files, line| files.serving(line)[0]);
+}
+
+#[test]
+#[should_panic(expected = "the listing differs")]
+fn the_end_of_the_first_step_for_2c_is_found() {
+    choose_wrongly(3, |files, line| files.serving(line)[0]);
+}
+
+/// The ranks are not looked at.
+#[test]
+#[should_panic(expected = "the listing differs")]
+fn the_smallest_related_state_for_2c_is_found() {
+    choose_wrongly(3, |files, line| {
+        let waiting = files.waiting(line).into_iter();
+        waiting.min().expect("some state serves")
+    });
+}
+
+#[test]
+#[should_panic(expected = "the listing differs")]
+fn u_in_place_of_t_for_2b_is_found() {
+    choose_wrongly(2, |files, line| files.end(line));
+}
+
+#[test]
+#[should_panic(expected = "the listing differs")]
+fn exchanged_clauses_are_found() {
+    list_wrongly(|_, lines| {
+        for line in lines {
+            line[4] = [1, 3, 2][line[4] as usize - 1];
+        }
+    });
+}
+
+#[test]
+#[should_panic(expected = "the listing differs")]
+fn right_steps_before_left_ones_are_found() {
+    list_wrongly(|_, lines| lines.sort_by_key(|&[side, s, t, ..]| (s, t, 1 - side)));
+}
+
+/// The six numbers after the lines, or in place of none.
+#[test]
+#[should_panic(expected = "the listing differs")]
+fn six_numbers_after_an_acceptance_are_found() {
+    compare::listing(1_000, 11, |input| {
+        let listed = oracle::listing_program(input);
+        let judged = oracle::program(input);
+        if judged.starts_with("0 ") {
+            listed + &judged
+        } else {
+            listed
+        }
+    });
+}
+
+/// The lines of the duties before the one that is refused.
+#[test]
+#[should_panic(expected = "the listing differs")]
+fn lines_before_a_refusal_are_found() {
+    compare::listing(1_000, 12, |input| {
+        let judged = oracle::program(input);
+        if judged.starts_with("19 ") {
+            format!("0 0 0 0 1 0\n{judged}")
+        } else {
+            oracle::listing_program(input)
+        }
+    });
 }

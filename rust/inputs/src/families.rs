@@ -8,7 +8,7 @@ use oracle::{Step, Table};
 
 /// A system from one of the families, each table in one of these versions.
 pub fn any_system(random: &mut Random, versions: &[u16]) -> System {
-    let mut system = match random.below(100) {
+    let system = match random.below(100) {
         0..=9 => random_system(random),
         10..=34 => pruned_system(random),
         35..=59 => thinned_system(random),
@@ -20,6 +20,18 @@ pub fn any_system(random: &mut Random, versions: &[u16]) -> System {
         _ if random.percent(25) => all_related(),
         _ => full_system(random),
     };
+    in_some_form(random, system, versions)
+}
+
+/// A layered system, each table in one of these versions.
+pub fn any_layered_system(random: &mut Random, versions: &[u16]) -> System {
+    let system = layered_system(random);
+    in_some_form(random, system, versions)
+}
+
+/// The system or the one with left and right exchanged, each table in one of these
+/// versions.
+fn in_some_form(random: &mut Random, mut system: System, versions: &[u16]) -> System {
     if random.percent(50) {
         system = system.exchanged();
     }
@@ -174,6 +186,54 @@ pub fn long_system(random: &mut Random) -> System {
     let left = split(random, &small, long);
     let right = split(random, &small, SplitInto::few(2));
     relate_copies(left, right)
+}
+
+/// Chases with a choice. The right states but one, the goal, stand in layers. They step
+/// ahead within their layer and to the next one, from the last layer to the goal. The left states but one are related to all of these and step to the last left
+/// state, which is related to the goal only. So at each state before the last layer
+/// the steps to the next layer serve 2c, often several, and those within do not.
+pub fn layered_system(random: &mut Random) -> System {
+    let width = random.within(2, 4);
+    let goal = width * random.within(2, 63 / width);
+    let mut steps = Vec::new();
+    for from in 0..goal {
+        let next_layer = (from / width + 1) * width;
+        let sure = goal.min(next_layer + random.below(width));
+        for to in from + 1..=goal.min(next_layer + width - 1) {
+            if to == sure || random.percent(50) {
+                steps.push(Step { from, to });
+            }
+        }
+    }
+    let right = renumbered(random, goal, steps);
+    let last = random.within(1, 4);
+    let steps = (0..last).map(|from| Step { from, to: last }).collect();
+    let left = renumbered(random, last, steps);
+    let related = relation(&left, &right, |s, t| left.marks[s] == right.marks[t]);
+    System {
+        left,
+        right,
+        related,
+    }
+}
+
+/// A table with these steps, its states and steps in any order. The last state has a
+/// mark of its own, and another one is the start.
+fn renumbered(random: &mut Random, last: usize, mut steps: Vec<Step>) -> Table {
+    let mut numbers: Vec<usize> = (0..=last).collect();
+    random.shuffle(&mut numbers);
+    for step in &mut steps {
+        (step.from, step.to) = (numbers[step.from], numbers[step.to]);
+    }
+    random.shuffle(&mut steps);
+    let mut marks = vec![0; last + 1];
+    marks[numbers[last]] = 0x0100;
+    Table {
+        version: 1,
+        start: numbers[random.below(last)],
+        marks,
+        steps,
+    }
 }
 
 /// Two states that step to each other, and a cycle. The first state is related to
@@ -365,12 +425,13 @@ mod tests {
     #[test]
     fn certificates_can_be_made() {
         let mut random = Random::new(1);
-        let families: [(&str, fn(&mut Random) -> System); 8] = [
+        let families: [(&str, fn(&mut Random) -> System); 9] = [
             ("pruned", pruned_system),
             ("thinned", thinned_system),
             ("split", split_system),
             ("cycles", cycles),
             ("long", long_system),
+            ("layered", layered_system),
             ("round trip", round_trip),
             ("full", full_system),
             ("stepless", stepless_system),

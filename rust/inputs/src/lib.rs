@@ -1,10 +1,12 @@
-//! Inputs for the judge, the maker and the program: the same ones for the same
-//! seed. `JudgeCases`, `MakeCases` and `ProgramCases` are iterators over them.
+//! Inputs for the judge, the maker and the two programs: the same ones for the same
+//! seed. `JudgeCases`, `MakeCases`, `ProgramCases` and `ListingCases` are iterators
+//! over them.
 
 mod byte_edits;
 mod certificate_edits;
 mod families;
 mod judge_cases;
+mod listing_cases;
 mod make_cases;
 mod program_cases;
 mod random;
@@ -16,8 +18,9 @@ mod table_edits;
 
 pub use families::{all_related, any_system, long_chains, long_distances};
 pub use judge_cases::{JudgeCase, JudgeCases};
+pub use listing_cases::ListingCases;
 pub use make_cases::{MakeCase, MakeCases};
-pub use program_cases::{ProgramCase, ProgramCases, PROGRAM_FORMS};
+pub use program_cases::{joined, ProgramCase, ProgramCases, PROGRAM_FORMS};
 pub use random::Random;
 pub use spaced::spaced;
 pub use system::{relation_bytes, save_in, table_bytes, System, VERSIONS};

@@ -60,7 +60,8 @@ impl Iterator for ProgramCases {
     }
 }
 
-fn input_of_form(random: &mut Random, mut pieces: [Vec<u8>; 3], form: &str) -> Vec<u8> {
+/// The pieces joined in one of the `PROGRAM_FORMS`.
+pub fn input_of_form(random: &mut Random, mut pieces: [Vec<u8>; 3], form: &str) -> Vec<u8> {
     let one = random.below(3);
     match form {
         "trailing bytes" => {
@@ -100,7 +101,8 @@ fn input_of_form(random: &mut Random, mut pieces: [Vec<u8>; 3], form: &str) -> V
     }
 }
 
-fn joined(pieces: &[Vec<u8>]) -> Vec<u8> {
+/// The pieces, each after its length.
+pub fn joined(pieces: &[Vec<u8>]) -> Vec<u8> {
     with_length(pieces, pieces.len(), |length| length)
 }
 

@@ -1,7 +1,10 @@
 //! Two tables and a relation, and how they are written as files.
 
+use crate::program_cases::joined;
 use crate::random::Random;
 use oracle::{Layout, Step, Table};
+
+type Make = fn(&[u8], &[u8], &[u8], &mut [u8]) -> [u64; 6];
 
 #[derive(Clone)]
 pub struct System {
@@ -39,14 +42,26 @@ impl System {
 
     /// What the maker of the oracle answers, and the certificate where it made one.
     pub fn make(&self) -> ([u64; 6], Vec<u8>) {
+        self.make_by(oracle::make)
+    }
+
+    fn make_by(&self, make: Make) -> ([u64; 6], Vec<u8>) {
         let mut output = vec![0; self.layout().length()];
-        let answer = oracle::make(
+        let answer = make(
             &self.left_bytes(),
             &self.right_bytes(),
             &self.relation_bytes(),
             &mut output,
         );
         (answer, output)
+    }
+
+    /// Both tables and the certificate made, as an input for the programs. The tuned
+    /// maker makes the same certificate, and the fullest systems do not keep it long.
+    pub fn input(&self) -> Vec<u8> {
+        let (answer, certificate) = self.make_by(oracle::tuned_maker::make);
+        assert_eq!(answer[0], 0, "no certificate is made");
+        joined(&[self.left_bytes(), self.right_bytes(), certificate])
     }
 
     /// A certificate with this relation and ranks from 0 to `highest`.

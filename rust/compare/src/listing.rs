@@ -1,0 +1,123 @@
+//! Compares a listing program with the oracle's.
+
+use crate::accepted::Accepted;
+use crate::hex;
+use crate::names::{mix_name, mix_names, name, names, table_codes};
+use crate::report::Report;
+use inputs::{ListingCases, PROGRAM_FORMS, VERSIONS};
+use oracle::Line;
+
+const SIDES: [&str; 2] = ["left", "right"];
+const CLAUSES: [&str; 3] = ["2a", "2b", "2c"];
+
+/// What can be special about an accepted input as a whole.
+const NO_DUTY: &str = "accepted, no duty";
+const ALL_CLAUSES: &str = "accepted, all three clauses";
+const FULL_SIZE: &str = "accepted, 32,768 lines";
+const A_THIRD: &str = "accepted, at least one in three";
+
+/// What can be special about a line: a lister that chose otherwise would differ.
+const NOT_THE_FIRST: &str = "the first step's end is greater";
+const NOT_THE_END: &str = "u is not t";
+const RANK_DECIDES: &str = "a smaller state's rank does not fall";
+
+/// Compares a listing program with the oracle's on `count` inputs. The closure is given
+/// the standard input and gives what was printed.
+pub fn listing(count: usize, seed: u64, mut under_test: impl FnMut(&[u8]) -> String) -> Report {
+    let mut report = Report::new(required());
+    let mut accepted = 0;
+    for case in ListingCases::new(seed, count) {
+        let expected = oracle::listing_program(&case.input);
+        let found = under_test(&case.input);
+        assert!(
+            found == expected,
+            "the listing differs ({}), {}\ninput    {}",
+            case.label,
+            first_difference(&expected, &found),
+            hex(&case.input),
+        );
+
+        report.see_label(case.label);
+        report.see(case.label);
+        let [left, right, certificate] = oracle::pieces(&case.input);
+        match oracle::list(left, right, certificate) {
+            Ok(lines) => {
+                accepted += 1;
+                report.see("accepted");
+                report.see(mix_name("accepted", left, right));
+                see_lines(&mut report, &case.input, &lines);
+            }
+            Err(refusal) => report.see(name(refusal, "accepted")),
+        }
+    }
+    if 3 * accepted >= count {
+        report.see(A_THIRD);
+    }
+    report
+}
+
+fn required() -> Vec<String> {
+    let mut required = names("accepted", table_codes(VERSIONS).chain(10..=19));
+    required.extend(PROGRAM_FORMS.map(String::from));
+    required.extend(mix_names("accepted", VERSIONS));
+    required.extend([NO_DUTY, ALL_CLAUSES, FULL_SIZE, A_THIRD].map(String::from));
+    for side in SIDES {
+        required.extend(CLAUSES.map(|clause| format!("{side} {clause}")));
+        required.extend(
+            [
+                ("2a", NOT_THE_FIRST),
+                ("2b", NOT_THE_END),
+                ("2c", NOT_THE_FIRST),
+                ("2c", RANK_DECIDES),
+            ]
+            .map(|(clause, special)| format!("{side} {clause}, {special}")),
+        );
+    }
+    required
+}
+
+fn see_lines(report: &mut Report, input: &[u8], lines: &[Line]) {
+    let files = Accepted::new(input).expect("the input is accepted");
+    let mut clauses = [false; 3];
+    for &line in lines {
+        let [side, _, _, _, clause, answering] = line;
+        let clause = clause as usize - 1;
+        clauses[clause] = true;
+        let name = format!("{} {}", SIDES[side as usize], CLAUSES[clause]);
+        if clause == 1 {
+            if files.end(line) != answering {
+                report.see(format!("{name}, {NOT_THE_END}"));
+            }
+        } else if files.serving(line)[0] != answering {
+            report.see(format!("{name}, {NOT_THE_FIRST}"));
+        }
+        if clause == 2 && files.waiting(line).iter().any(|&v| v < answering) {
+            report.see(format!("{name}, {RANK_DECIDES}"));
+        }
+        report.see(name);
+    }
+    if lines.is_empty() {
+        report.see(NO_DUTY);
+    }
+    if clauses == [true; 3] {
+        report.see(ALL_CLAUSES);
+    }
+    if lines.len() == 32_768 {
+        report.see(FULL_SIZE);
+    }
+}
+
+/// The first line in which two different texts differ.
+fn first_difference(expected: &str, found: &str) -> String {
+    let mut expected = expected.split_inclusive('\n');
+    let mut found = found.split_inclusive('\n');
+    let mut number = 1;
+    loop {
+        match (expected.next(), found.next()) {
+            (expected, found) if expected != found => {
+                return format!("line {number}\nexpected {expected:?}\nfound    {found:?}");
+            }
+            _ => number += 1,
+        }
+    }
+}
