@@ -189,9 +189,10 @@ pub fn long_system(random: &mut Random) -> System {
 }
 
 /// Chases with a choice. The right states but one, the goal, stand in layers. They step
-/// ahead within their layer and to the next one, from the last layer to the goal. The left states but one are related to all of these and step to the last left
-/// state, which is related to the goal only. So at each state before the last layer
-/// the steps to the next layer serve 2c, often several, and those within do not.
+/// ahead within their layer and to the next one, from the last layer to the goal. The
+/// left states but one are related to all of these and step to the last left state,
+/// which is related to the goal only. So at each state before the last layer the steps
+/// to the next layer serve 2c, often several, and those within do not.
 pub fn layered_system(random: &mut Random) -> System {
     let width = random.within(2, 4);
     let goal = width * random.within(2, 63 / width);

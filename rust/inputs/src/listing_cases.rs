@@ -27,7 +27,7 @@ const CASES_PER_SYSTEM: usize = 3;
 
 impl ListingCases {
     pub fn new(seed: u64, count: usize) -> ListingCases {
-        let mut random = Random::new(seed ^ 1 << 63);
+        let mut random = Random::new(seed ^ (1 << 63));
         let made = made(&mut random);
         let fullest = fullest(&mut random);
         ListingCases {

@@ -56,8 +56,8 @@ impl System {
         (answer, output)
     }
 
-    /// Both tables and the certificate made, as an input for the programs. The tuned
-    /// maker makes the same certificate, and the fullest systems do not keep it long.
+    /// Both tables and the certificate made, as an input for the programs. It is made by
+    /// the tuned maker, which writes the same and is fast on the fullest systems too.
     pub fn input(&self) -> Vec<u8> {
         let (answer, certificate) = self.make_by(oracle::tuned_maker::make);
         assert_eq!(answer[0], 0, "no certificate is made");

@@ -331,21 +331,25 @@ fn t_answers_by_2b() {
     listed(&right, &left, &made, &["1 1 0 0 2 1"]);
 }
 
-/// Right state 2 steps to 0 and to 1, both related to left state 0. The chase rank
-/// of the left step at 0 is 1, as at 2, so that 1 answers.
+/// Right state 2 steps to 0, to 3 and to 1, all related to left state 0. The chase rank
+/// of the left step is 1 at 0, as at 2, and lower at 3 and at 1, so that 1 answers.
 #[test]
 fn by_2c_the_smallest_state_with_a_lower_rank_answers() {
     let left = table(0, &[0, 1], &[[0, 1]]);
-    let right = table(2, &[0, 0, 0, 1], &[[2, 0], [2, 1], [1, 3], [0, 1]]);
-    let made = certificate(&left, &right, &[0b0111, 0b1000]);
+    let steps = [[2, 0], [2, 3], [2, 1], [3, 4], [1, 4], [0, 1]];
+    let right = table(2, &[0, 0, 0, 0, 1], &steps);
+    let made = certificate(&left, &right, &[0b01111, 0b10000]);
     let lines = [
         "0 0 0 0 3 1",
-        "1 0 0 3 2 0",
-        "0 0 1 0 1 3",
-        "1 0 1 2 1 1",
+        "1 0 0 5 2 0",
+        "0 0 1 0 1 4",
+        "1 0 1 4 1 1",
         "0 0 2 0 3 1",
         "1 0 2 0 2 0",
         "1 0 2 1 2 0",
+        "1 0 2 2 2 0",
+        "0 0 3 0 1 4",
+        "1 0 3 3 1 1",
     ];
     listed(&left, &right, &made, &lines);
 }

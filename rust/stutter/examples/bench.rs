@@ -1,11 +1,16 @@
-//! Times the proved judge and the proved maker beside Rust versions, on the same
-//! inputs in one run. The versions take turns in every round and the medians are
-//! compared, so that other load on the machine does not decide.
+//! Times the proved judge, the proved maker and the listing program beside Rust
+//! versions, on the same inputs in one run. The versions take turns in every round and
+//! the medians are compared, so that other load on the machine does not decide.
 
 use inputs::{all_related, long_chains, long_distances, Random, System};
 use oracle::{Answer, Step, Table};
 use std::cell::RefCell;
+use std::env;
+use std::fs::{self, File};
 use std::hint::black_box;
+use std::io::{self, Read, Write};
+use std::path::Path;
+use std::process::{self, Command, Stdio};
 use std::time::{Duration, Instant};
 
 type Judge = fn(&[u8], &[u8], &[u8]) -> Answer;
@@ -25,6 +30,9 @@ const MAKERS: [(&str, Make); 3] = [
     ("tuned maker of the same method", oracle::tuned_maker::make),
 ];
 
+/// With this word this program is the oracle's lister.
+const ORACLE_LISTER: &str = "oracle-lister";
+
 const ROUNDS: usize = 301;
 
 /// How long each version works in a round, where one call does not take longer.
@@ -35,10 +43,15 @@ struct Contest<'a> {
     name: &'static str,
     /// What a call works through, for a time of each.
     obligations: usize,
-    calls: Vec<(&'static str, Box<dyn Fn() -> Answer + 'a>)>,
+    calls: Vec<(&'static str, Call<'a>)>,
 }
 
+type Call<'a> = Box<dyn Fn() + 'a>;
+
 fn main() {
+    if env::args().nth(1).is_some_and(|word| word == ORACLE_LISTER) {
+        return list();
+    }
     println!("64 states and 256 steps a side, medians of {ROUNDS} rounds");
     println!("the judge");
     judge("accepted", &all_related(), [0, 0, 4096, 32_768, 0, 0]);
@@ -48,6 +61,9 @@ fn main() {
     make("all pairs related", &all_related());
     make("chains of 63 steps", &long_chains());
     make("distances of 63 steps", &long_distances());
+    println!("the listing");
+    listing("all pairs related", &all_related());
+    listing("distances of 63 steps", &long_distances());
 }
 
 /// The judges on this system with ranks of 0.
@@ -97,8 +113,53 @@ fn make(name: &'static str, system: &System) {
     });
 }
 
-fn boxed<'a>(call: impl Fn() -> Answer + 'a) -> Box<dyn Fn() -> Answer + 'a> {
-    Box::new(call)
+/// The listing program and the oracle's lister on this system, for which a certificate
+/// is made. Both are processes, and the start of a process counts for both. They read
+/// the same file and print into a pipe, which is read to its end.
+fn listing(name: &'static str, system: &System) {
+    let program = Path::new(env!("CARGO_MANIFEST_DIR")).join("../../target/bin/listing");
+    assert!(
+        program.is_file(),
+        "target/bin/listing is missing. Run `rt check listing` in the repository's folder."
+    );
+    let oracle_lister = env::current_exe().expect("this program has a path");
+    let input = env::temp_dir().join(format!("stutter-bench-{}", process::id()));
+    fs::write(&input, system.input()).expect("the input is written");
+    let call = |program: &Path, words: &[&str]| {
+        let output = Command::new(program)
+            .args(words)
+            .stdin(File::open(&input).expect("the input is there"))
+            .stderr(Stdio::inherit())
+            .output()
+            .expect("the program ends");
+        assert!(output.status.success(), "{}", output.status);
+        output.stdout
+    };
+    let proved = || call(&program, &[]);
+    let plain = || call(&oracle_lister, &[ORACLE_LISTER]);
+    assert!(proved() == plain(), "{name}, the listings differ");
+    report(&Contest {
+        name,
+        obligations: obligations(system),
+        calls: vec![("proved", boxed(proved)), ("oracle's lister", boxed(plain))],
+    });
+    fs::remove_file(&input).expect("the input is removed");
+}
+
+/// What the oracle's lister does as a process.
+fn list() {
+    let mut input = Vec::new();
+    io::stdin()
+        .read_to_end(&mut input)
+        .expect("the input is read");
+    let text = oracle::listing_program(&input);
+    io::stdout()
+        .write_all(text.as_bytes())
+        .expect("the lines are printed");
+}
+
+fn boxed<'a, T>(call: impl Fn() -> T + 'a) -> Call<'a> {
+    Box::new(move || drop(call()))
 }
 
 /// The obligations of all related pairs.

@@ -1,5 +1,7 @@
-//! The built program beside the oracle's, and how it behaves as a process.
+//! The built programs beside the oracle's, and how they behave as processes.
 
+use compare::Report;
+use inputs::joined;
 use std::fs::File;
 use std::io::{ErrorKind, Read, Seek, Write};
 use std::path::{Path, PathBuf};
@@ -7,6 +9,37 @@ use std::process::{Child, ChildStdin, Command, Stdio};
 use std::sync::mpsc;
 use std::thread;
 use std::time::Duration;
+
+/// A built program and what is expected of it.
+struct Program {
+    /// Its crate, and its file under `target/bin`.
+    name: &'static str,
+    oracle: fn(&[u8]) -> String,
+    /// Runs it beside the oracle's on many inputs.
+    compared: fn(&Program) -> Report,
+    /// What it prints for P, Q and K.
+    example: &'static str,
+    /// How many lines it prints for the fullest input.
+    most_lines: usize,
+}
+
+static PROGRAMS: [Program; 2] = [
+    Program {
+        name: "judge",
+        oracle: oracle::program,
+        compared: |program| compare::program(5_000, 31, |input| program.run(input)),
+        example: "0 0 3 4 1 1\n",
+        most_lines: 1,
+    },
+    Program {
+        name: "listing",
+        oracle: oracle::listing_program,
+        compared: |program| compare::listing(5_000, 32, |input| program.run(input)),
+        example: "0 0 0 0 3 1\n1 0 0 0 2 0\n0 0 1 0 1 2\n\
+                  1 0 1 1 1 1\n0 1 2 1 1 0\n1 1 2 2 1 0\n",
+        most_lines: 32_768,
+    },
+];
 
 /// The most bytes that three pieces and their lengths have.
 const MOST: usize = 3 * (2 + 65_535);
@@ -16,14 +49,26 @@ fn repository() -> PathBuf {
     Path::new(env!("CARGO_MANIFEST_DIR")).join("../..")
 }
 
-/// Where `rt` puts the built program.
-fn program() -> PathBuf {
-    let path = repository().join("target/bin/judge");
-    assert!(
-        path.is_file(),
-        "target/bin/judge is missing. Run `rt check judge` in the repository's folder."
-    );
-    path
+impl Program {
+    /// Where `rt` puts the built program.
+    fn path(&self) -> PathBuf {
+        let name = self.name;
+        let path = repository().join("target/bin").join(name);
+        assert!(
+            path.is_file(),
+            "target/bin/{name} is missing. Run `rt check {name}` in the repository's folder."
+        );
+        path
+    }
+
+    fn command(&self) -> Command {
+        Command::new(self.path())
+    }
+
+    /// What the program prints for this input.
+    fn run(&self, input: &[u8]) -> String {
+        run(&mut self.command(), input)
+    }
 }
 
 fn spawn(command: &mut Command, input: Stdio) -> Child {
@@ -32,6 +77,13 @@ fn spawn(command: &mut Command, input: Stdio) -> Child {
         .stdout(Stdio::piped())
         .spawn()
         .expect("the program starts")
+}
+
+/// The program, and the pipe for its input.
+fn spawn_with_pipe(command: &mut Command) -> (Child, ChildStdin) {
+    let mut child = spawn(command, Stdio::piped());
+    let pipe = child.stdin.take().expect("the input is a pipe");
+    (child, pipe)
 }
 
 /// Writes, where the program may already have ended without reading all.
@@ -47,72 +99,74 @@ fn printed(child: Child) -> String {
     String::from_utf8(output.stdout).expect("the program prints text")
 }
 
-/// What the program prints for this input.
-fn run(input: &[u8]) -> String {
-    let mut child = spawn(&mut Command::new(program()), Stdio::piped());
-    let mut pipe = child.stdin.take().expect("the input is a pipe");
-    send(&mut pipe, input);
-    drop(pipe);
-    printed(child)
+/// What the command prints for this input. A pipe holds less than the longest input
+/// and the longest output, so the one is written while the other is read.
+fn run(command: &mut Command, input: &[u8]) -> String {
+    let (child, mut pipe) = spawn_with_pipe(command);
+    thread::scope(|scope| {
+        scope.spawn(move || send(&mut pipe, input));
+        printed(child)
+    })
 }
 
-/// Three pieces, each after its length.
-fn joined(pieces: [&[u8]; 3]) -> Vec<u8> {
-    let mut input = Vec::new();
-    for piece in pieces {
-        input.extend((piece.len() as u16).to_be_bytes());
-        input.extend(piece);
-    }
-    input
-}
-
-/// The example with which the program is built: P, Q and K.
+/// The example with which the judge's program is built: P, Q and K.
 fn example() -> Vec<u8> {
     std::fs::read(repository().join("crates/judge/stdin")).expect("the example's input is there")
 }
 
 /// 64 states and 256 steps a side, every pair related: the longest certificate.
 fn largest_accepted() -> Vec<u8> {
-    let system = inputs::all_related();
-    let (answer, certificate) = system.make();
-    assert_eq!(answer[..3], [0, 0, 41_483]);
-    joined([&system.left_bytes(), &system.right_bytes(), &certificate])
+    let input = inputs::all_related().input();
+    assert_eq!(input.len(), 3 * 2 + 2 * (9 + 2 * 64 + 2 * 256) + 41_483);
+    input
+}
+
+/// Three pieces of the same bytes.
+fn thrice(piece: &[u8]) -> Vec<u8> {
+    joined(&[piece.to_vec(), piece.to_vec(), piece.to_vec()])
 }
 
 #[test]
-fn the_example_is_the_documents() {
-    let printed = "0 0 3 4 1 1\n";
-    assert_eq!(oracle::program(&example()), printed);
-    assert_eq!(run(&example()), printed);
+fn the_examples_are_the_documents() {
+    for program in &PROGRAMS {
+        assert_eq!((program.oracle)(&example()), program.example);
+        assert_eq!(program.run(&example()), program.example);
+    }
 }
 
 #[test]
-fn the_program_equals_the_oracle() {
-    compare::program(5_000, 31, run).require_all();
+fn the_programs_equal_the_oracle() {
+    thread::scope(|scope| {
+        for program in &PROGRAMS {
+            scope.spawn(|| (program.compared)(program).require_all());
+        }
+    });
 }
 
 /// The answer comes while the input is still open, with later bytes or without.
 #[test]
 fn an_open_input_is_answered() {
-    for later in [&b""[..], &b"x"[..], &[0; 300]] {
-        for mut input in [example(), joined([&[], &[], &[]]), largest_accepted()] {
-            let expected = oracle::program(&input);
-            input.extend(later);
+    for program in &PROGRAMS {
+        for later in [&b""[..], &b"x"[..], &[0; 300]] {
+            for mut input in [example(), thrice(&[]), largest_accepted()] {
+                let expected = (program.oracle)(&input);
+                input.extend(later);
 
-            let mut child = spawn(&mut Command::new(program()), Stdio::piped());
-            let mut pipe = child.stdin.take().expect("the input is a pipe");
-            let mut output = child.stdout.take().expect("the output is a pipe");
-            send(&mut pipe, &input);
-            let (sender, receiver) = mpsc::channel();
-            thread::spawn(move || {
-                let mut text = String::new();
-                output.read_to_string(&mut text).expect("it prints text");
-                let _ = sender.send(text);
-            });
-            let answer = receiver.recv_timeout(Duration::from_secs(60));
-            drop(pipe);
-            assert!(child.wait().expect("the program ends").success());
-            assert_eq!(answer.expect("an answer while the input is open"), expected);
+                let (mut child, mut pipe) = spawn_with_pipe(&mut program.command());
+                let mut output = child.stdout.take().expect("the output is a pipe");
+                let (sender, receiver) = mpsc::channel();
+                thread::spawn(move || {
+                    let mut text = String::new();
+                    output.read_to_string(&mut text).expect("it prints text");
+                    let _ = sender.send(text);
+                });
+                send(&mut pipe, &input);
+                let answer = receiver.recv_timeout(Duration::from_secs(60));
+                drop(pipe);
+                assert!(child.wait().expect("the program ends").success());
+                let answer = answer.expect("an answer while the input is open");
+                assert!(answer == expected, "{} differs", program.name);
+            }
         }
     }
 }
@@ -121,35 +175,43 @@ fn an_open_input_is_answered() {
 #[test]
 fn an_input_in_single_bytes_is_answered() {
     let input = example();
-    let mut child = spawn(&mut Command::new(program()), Stdio::piped());
-    let mut pipe = child.stdin.take().expect("the input is a pipe");
-    for byte in &input {
-        send(&mut pipe, &[*byte]);
-        thread::sleep(Duration::from_millis(1));
+    for program in &PROGRAMS {
+        let (child, mut pipe) = spawn_with_pipe(&mut program.command());
+        for byte in &input {
+            send(&mut pipe, &[*byte]);
+            thread::sleep(Duration::from_millis(1));
+        }
+        drop(pipe);
+        assert_eq!(printed(child), (program.oracle)(&input));
     }
-    drop(pipe);
-    assert_eq!(printed(child), oracle::program(&input));
 }
 
 /// "Later bytes are not read": the file's position is after the third piece.
 #[test]
 fn later_bytes_are_not_read() {
     let path = std::env::temp_dir().join(format!("stutter-input-{}", std::process::id()));
-    let longest = [0x55; 65_535];
-    for pieces in [
-        example(),
-        joined([&longest; 3]),
-        joined([&[], &[1, 2], &[]]),
-    ] {
-        let mut input = pieces.clone();
-        input.extend([0; 100]);
-        std::fs::write(&path, &input).expect("the input is written");
-        let mut file = File::open(&path).expect("the input is there");
-        let shared = file.try_clone().expect("the position is shared");
-        let child = spawn(&mut Command::new(program()), Stdio::from(shared));
-        assert_eq!(printed(child), oracle::program(&input));
-        let position = file.stream_position().expect("a file has a position");
-        assert_eq!(position, pieces.len() as u64);
+    for program in &PROGRAMS {
+        for pieces in [
+            example(),
+            thrice(&[0x55; 65_535]),
+            joined(&[vec![], vec![1, 2], vec![]]),
+            largest_accepted(),
+        ] {
+            let mut input = pieces.clone();
+            input.extend([0; 100]);
+            std::fs::write(&path, &input).expect("the input is written");
+            let mut file = File::open(&path).expect("the input is there");
+            let shared = file.try_clone().expect("the position is shared");
+            let child = spawn(&mut program.command(), Stdio::from(shared));
+            let printed = printed(child);
+            assert!(
+                printed == (program.oracle)(&input),
+                "{} differs",
+                program.name
+            );
+            let position = file.stream_position().expect("a file has a position");
+            assert_eq!(position, pieces.len() as u64, "{}", program.name);
+        }
     }
     std::fs::remove_file(&path).expect("the input is removed");
 }
@@ -157,19 +219,22 @@ fn later_bytes_are_not_read() {
 /// A stack of 1 MiB is enough for the largest inputs.
 #[test]
 fn a_small_stack_is_enough() {
-    let longest = [0xff; 65_535];
-    let inputs = [joined([&longest; 3]), largest_accepted()];
-    assert_eq!(inputs[0].len(), MOST);
-    for input in inputs {
-        let mut shell = Command::new("sh");
-        shell
-            .arg("-c")
-            .arg("ulimit -s 1024 && exec \"$0\"")
-            .arg(program());
-        let mut child = spawn(&mut shell, Stdio::piped());
-        let mut pipe = child.stdin.take().expect("the input is a pipe");
-        send(&mut pipe, &input);
-        drop(pipe);
-        assert_eq!(printed(child), oracle::program(&input));
+    let (longest, fullest) = (thrice(&[0xff; 65_535]), largest_accepted());
+    assert_eq!(longest.len(), MOST);
+    for program in &PROGRAMS {
+        for (input, lines) in [(&longest, 1), (&fullest, program.most_lines)] {
+            let mut shell = Command::new("sh");
+            shell
+                .arg("-c")
+                .arg("ulimit -s 1024 && exec \"$0\"")
+                .arg(program.path());
+            let printed = run(&mut shell, input);
+            assert_eq!(printed.lines().count(), lines, "{}", program.name);
+            assert!(
+                printed == (program.oracle)(input),
+                "{} differs",
+                program.name
+            );
+        }
     }
 }
