@@ -25,20 +25,11 @@ fn judge_input() -> Answer
     answer_of(&input[..n])
 }
 
-// Prints a number and what follows it.
-fn print_number(number: usize, after: &[u8]) {
-    io::print_decimal(1, number as u64);
-    io::write_all(1, after);
-}
-
-// Prints the six numbers, one space between, and a newline.
+// Prints the six numbers: in decimal, one space between, and a newline.
 fn print_answer(answer: Answer) {
-    print_number(answer.code, b" ");
-    print_number(answer.file, b" ");
-    print_number(answer.a, b" ");
-    print_number(answer.b, b" ");
-    print_number(answer.c, b" ");
-    print_number(answer.d, b"\n");
+    let mut line = [0u8; texts::MOST];
+    let end = texts::put_answer(answer, &mut line, 0);
+    io::write_all(1, &line[..end]);
 }
 
 fn main() {

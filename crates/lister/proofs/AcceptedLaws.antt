@@ -1,6 +1,6 @@
 -- Where the judge accepts, the text that is read off the two sides is what the program prints, and the output has room for it. Assumes nothing.
-use Prim.Native.Nat.{ℕ, _≤_, zero-le}
-use mathlib.Core.Path.{_≡_, ap, ap₂, sym, _∙_}
+use Prim.Native.Nat.{ℕ, _≤_}
+use mathlib.Core.Path.{_≡_, ap, sym, _∙_}
 use mathlib.Core.List.{List, flatMap}
 use native.Mathlib.Omega.{arith}
 use lib.ListN.{length, take}
@@ -21,15 +21,10 @@ use Rattle.checker.proofs.JudgeCauseLaws.{zero-read}
 use Rattle.checker.proofs.SidesReadLaws.{SidesMade, SidesRead, made-sizes, sides-read}
 use Rattle.texts.specs.Texts.{answerText, fitting}
 use Rattle.texts.specs.Wrote.{Wrote}
-use Rattle.texts.proofs.TextLaws.{written-front, fitting-room}
+use Rattle.texts.proofs.TextLaws.{fitting-room, wrote-front}
 use Rattle.lister.specs.Listing.{listing, lineText, printed}
 use Rattle.lister.specs.OnSides.{allText}
 use Rattle.lister.proofs.ListingLaws.{text-is, listing-short}
-
--- what is written from the front on is read there
-pub wrote-front : (text : List ℕ) {end : ℕ} {before after : List ℕ} → Wrote text 0 end before after → take end after ≡ text
-wrote-front text {before = before} w =
-    ap₂ take (w .end-is) (w .after-is) ∙ written-front text 0 before zero-le
 
 module _ (left right c : List ℕ) where
   -- on a refusal the six numbers are printed

@@ -178,7 +178,8 @@ fn list_all(
 fn list_accepted(left: &[u8], right: &[u8], certificate: &[u8], output: &mut [u8]) -> usize
     requires { ⌜ judgeAnswer (now left) (now right) (now certificate) .code ≡ 0 ⌝ }
     requires { ⌜ length (now output) ≡ 557182 ⌝ }
-    ensures { λ r. ⌜ take r (now (output .exit)) ≡ printed (now (left .entry)) (now (right .entry)) (now (certificate .entry)) ⌝ }
+    ensures fits { λ r. ⌜ r ≤ length (now (output .exit)) ⌝ }
+    ensures text { λ r. ⌜ take r (now (output .exit)) ≡ printed (now (left .entry)) (now (right .entry)) (now (certificate .entry)) ⌝ }
 {
     let head = head_of(left);
     let head2 = head_of(right);
@@ -201,7 +202,8 @@ fn list_accepted(left: &[u8], right: &[u8], certificate: &[u8], output: &mut [u8
 // Puts what the program prints for three byte strings, and answers how many bytes that are: where the judge accepts, the line of each obligation in judging
 // order, else the judge's six numbers.
 pub fn list(left: &[u8], right: &[u8], certificate: &[u8], output: &mut [u8; MOST]) -> usize
-    ensures { λ r. ⌜ take r (now (output .exit)) ≡ printed (now (left .entry)) (now (right .entry)) (now (certificate .entry)) ⌝ }
+    ensures fits { λ r. ⌜ r ≤ length (now (output .exit)) ⌝ }
+    ensures text { λ r. ⌜ take r (now (output .exit)) ≡ printed (now (left .entry)) (now (right .entry)) (now (certificate .entry)) ⌝ }
 {
     let places: &mut [u8] = output;
     let answer = judge(left, right, certificate);

@@ -1,6 +1,6 @@
 -- Laws of a text written over a list, of one text written where another ends, of what is put where there is room, and of the lengths of texts.
 -- Assumes nothing.
-use Prim.Native.Nat.{ℕ, _+_, _≤_, _<_}
+use Prim.Native.Nat.{ℕ, _+_, _≤_, _<_, zero-le}
 use mathlib.Core.Path.{_≡_, refl, sym, ap, ap₂, _∙_}
 use mathlib.Core.List.{List, [], _∷_, _++_, append-assoc}
 use native.Mathlib.Nat.{add-zero, add-assoc}
@@ -9,7 +9,8 @@ use native.Mathlib.Omega.{arith}
 use lib.ListN.{length, take, drop, set, length-append, length-drop, take-append-drop}
 use lib.Seq.{length-take-le, take-at, drop-at, drop-drop, set-split}
 use borrow.Author.Tests.{le-leb, lt-leb}
-use Rattle.texts.specs.Texts.{decimal, numberText, sixText, mostText, written, fitting}
+use Rattle.answers.specs.declared.Answer.{Answer}
+use Rattle.texts.specs.Texts.{decimal, numberText, sixText, answerText, mostText, written, fitting}
 use Rattle.texts.specs.Wrote.{mostNumber, Wrote}
 use Rattle.texts.proofs.DecimalLaws.{decimal-most}
 
@@ -104,3 +105,23 @@ six-length a b c d e f = simp (length-append, number-length) (omega arith)
 pub six-most : (a b c d e f : ℕ) → length (sixText a b c d e f) ≤ mostText
 six-most a b c d e f =
     omega (arith, six-length a b c d e f, decimal-most a, decimal-most b, decimal-most c, decimal-most d, decimal-most e, decimal-most f)
+
+-- ---- a text at the front
+
+-- what is written from the front on is read there, and ends inside
+pub wrote-front : (text : List ℕ) {end : ℕ} {before after : List ℕ} → Wrote text 0 end before after → take end after ≡ text
+wrote-front text {before = before} w = ap₂ take (w .end-is) (w .after-is) ∙ written-front text 0 before zero-le
+
+pub wrote-fits : (text : List ℕ) {end : ℕ} {before after : List ℕ} → length text ≤ length before → Wrote text 0 end before after → end ≤ length after
+wrote-fits text h w =
+    let e = w .end-is in
+    let l = wrote-length w (omega arith) in
+    omega arith
+
+-- so does an answer where there is room for any
+pub answer-fits : (answer : Answer) {end : ℕ} {before after : List ℕ} → mostText ≤ length before
+    → Wrote (fitting (answerText answer) 0 before) 0 end before after → end ≤ length after
+answer-fits r {before = before} room w =
+    let e = ap length (fitting-room (answerText r) 0 before (omega arith)) in
+    let m = six-most (r .code) (r .file) (r .a) (r .b) (r .c) (r .d) in
+    wrote-fits _ (omega arith) w

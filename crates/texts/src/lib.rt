@@ -7,7 +7,7 @@ ghost use Rattle.texts.specs.Texts.{decimal, numberText, sixText, answer
 ghost use Rattle.texts.specs.Wrote.{mostNumber, Wrote};
 
 // The most bytes that six numbers take, each with the byte after it.
-const MOST: usize = 126;
+pub const MOST: usize = 126;
 
 const ZERO: u8 = b'0';
 

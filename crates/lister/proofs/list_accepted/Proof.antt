@@ -6,7 +6,8 @@ use denote.Ref.{now}
 use borrow.Author.Needs.{needs}
 use Rattle.certificates.specs.CertificateModel.{AreBytes}
 use Rattle.checker.proofs.SidesReadLaws.{SidesMade}
-use Rattle.lister.proofs.AcceptedLaws.{wrote-front, accepted-text, accepted-short}
+use Rattle.texts.proofs.TextLaws.{wrote-front, wrote-fits}
+use Rattle.lister.proofs.AcceptedLaws.{accepted-text, accepted-short}
 use Rattle.lister.proofs.list_accepted.Statement.{statement}
 use Rattle.lister.proofs.list_accepted.Tie as tie
 
@@ -45,6 +46,9 @@ made c =
 
 bytes : (c : tie.After-right) → AreBytes (now (c .before .before .before .before .before .before .before .before .before .before .before .before .before .before .before .before .before .before .before .before .before .before .before .before .args .certificate))
 bytes c = λ i. omega (arith, c .before .before .before .before .before .before .before .before .before .before .before .before .before .before .before .before .before .before .before .before .before .shared-slice-known3 .given i)
+
+inside : {text long : ℕ} → text ≤ 557056 → long ≡ 557182 → text ≤ long
+inside s l = omega arith
 
 room : {text long : ℕ} → text ≤ 557056 → long ≡ 557182 → 0 + text + 126 ≤ long
 room s l = omega arith
@@ -108,9 +112,14 @@ returns : tie.Need-returns
 returns c =
     let e = c .before .before .before .before in
     let a = e .before .before .before .before .before .before .before .before .before .before .before .before .before .before .before .before .before .before .before .before .before .before .before .before .args in
-    wrote-front _ (c .before .before .list-all .ensures)
-    ∙ accepted-text (now (a .left)) (now (a .right)) (now (a .certificate)) (e .before .before .before .before .before .before .before .before .before .before .before .before .before .before .before .before .before .before .before .before .before .before .before .before .pre .0) (bytes e) (e .before .before .before .before .before .before .before .before .before .before .before .before .before .before .before .before .before .before .before .head-of .ensures)
-    (e .before .before .before .before .before .before .before .before .before .before .before .before .before .before .before .before .before .before .head-of2 .ensures) (made e) (e .before .left .ensures) (e .right .ensures)
+    let short =
+    accepted-short (now (a .left)) (now (a .right)) (now (a .certificate)) (e .before .before .before .before .before .before .before .before .before .before .before .before .before .before .before .before .before .before .before .before .before .before .before .before .pre .0) (bytes e) (e .before .before .before .before .before .before .before .before .before .before .before .before .before .before .before .before .before .before .before .head-of .ensures)
+    (e .before .before .before .before .before .before .before .before .before .before .before .before .before .before .before .before .before .before .head-of2 .ensures) (made e) (e .before .left .ensures) (e .right .ensures) in (
+      wrote-fits _ (inside short (e .before .before .before .before .before .before .before .before .before .before .before .before .before .before .before .before .before .before .before .before .before .before .before .before .pre .1)) (c .before .before .list-all .ensures),
+      wrote-front _ (c .before .before .list-all .ensures)
+          ∙ accepted-text (now (a .left)) (now (a .right)) (now (a .certificate)) (e .before .before .before .before .before .before .before .before .before .before .before .before .before .before .before .before .before .before .before .before .before .before .before .before .pre .0) (bytes e) (e .before .before .before .before .before .before .before .before .before .before .before .before .before .before .before .before .before .before .before .head-of .ensures)
+          (e .before .before .before .before .before .before .before .before .before .before .before .before .before .before .before .before .before .before .head-of2 .ensures) (made e) (e .before .left .ensures) (e .right .ensures),
+    )
 
 pub list-accepted-spec : {M : Type 1} → statement M
 list-accepted-spec =
