@@ -8,3 +8,4 @@ pub mod MakerAnswers
 pub mod MakerExact
 pub mod StarredExamples
 pub mod UnrelatedRanks
+pub mod ListingExact

@@ -1,6 +1,6 @@
--- The starred bench examples of document 01: the definitions, computed on the bytes. Assumes nothing.
+-- The starred bench examples of documents 01 and 02: the definitions, computed on the bytes. Assumes nothing.
 use mathlib.Core.Path.{_≡_, refl, ap}
-use mathlib.Core.List.{[], _∷_, _++_}
+use mathlib.Core.List.{[], _∷_, _++_, flatMap}
 use native.Mathlib.Decide.{decLt}
 use native.Mathlib.Omega.{arith}
 use lib.Dec.{ltb, ltb→lt}
@@ -49,7 +49,8 @@ use Rattle.inputs.specs.Inputs.{readVerdict}
 use Rattle.ranking.specs.Make.{roomVerdict, fileFor, madeVerdict, makeVerdict, makeAnswer, makeOutput}
 use Rattle.checker.specs.Judge.{pairsIn, judged, judgedBytes, judgeVerdict, judgeAnswer}
 use Rattle.demands.specs.Demand2.{WellFormedInputs}
-use Rattle.demands.specs.Examples.{six, P, Q, rowsPQ, K, certificate, low, zeros, still, looping, stillCertificate}
+use Rattle.lister.specs.Listing.{checkLines, listing, listingOf}
+use Rattle.demands.specs.Examples.{line, six, P, Q, rowsPQ, K, certificate, low, zeros, still, looping, stillCertificate}
 use Rattle.demands.proofs.MakerAnswers.{made-given}
 use Rattle.demands.proofs.MakerExact.{maker-exact}
 
@@ -73,6 +74,15 @@ unfolding
     matchesWithin matched distance mayChain chainAlong stutterRank matchRank mostBelow
     readVerdict madeVerdict makeVerdict makeAnswer makeOutput fileFor certificateHeader certificateFile bigBytes tabulate grid putFront
 starred = (refl, refl, refl, refl, refl, refl, refl, refl, refl)
+
+-- document 02's six lines for P, Q and K
+pub listed : listingOf P Q K
+    ≡ line 0 0 0 0 3 1 ∷ line 1 0 0 0 2 0 ∷ line 0 0 1 0 1 2 ∷ line 1 0 1 1 1 1 ∷ line 0 1 2 1 1 0 ∷ line 1 1 2 2 1 0 ∷ []
+unfolding
+    anyBelow firstBelow bigEndian hasBit is2a is2b is2c ahead statesOf startOf stepsOf initialOf labelsAt stepsAt stepsEnd
+    labelsPart stepsPart labelOf fromOf toOf systemOf sizesOf alAt arAt clAt crAt rowsPart rowOf relatedIn viewOf ranksOf
+    smallestEntered outcomeAfter2a isApart obligationAt joinBelow stepsFrom pairChecks checksBy checks mostBelow flatMap checkLines listing
+listed = refl
 
 -- K has 51 bytes, and the maker writes exactly K, into an output of 51 bytes or at the front of a longer one; 50 bytes are too few
 pub made-K : (length K ≡ 51)

@@ -1,12 +1,17 @@
--- The bench examples of document 01, as bytes.
+-- The bench examples of documents 01 and 02, as bytes.
 use Prim.Native.Nat.{ℕ}
 use mathlib.Core.List.{List, [], _∷_, _++_}
 use lib.ListN.{replicate}
 use Rattle.answers.specs.declared.Answer.{Answer}
+use Rattle.lister.specs.Listing.{Line}
 
 -- Six numbers.
 abbrev pub six : ℕ → ℕ → ℕ → ℕ → ℕ → ℕ → Answer
 six code file a b c d = record { code = code; file = file; a = a; b = b; c = c; d = d }
+
+-- A line of the listing.
+abbrev pub line : ℕ → ℕ → ℕ → ℕ → ℕ → ℕ → Line
+line side left right step clause state = record { side = side; left = left; right = right; step = step; clause = clause; state = state }
 
 -- P: 2 states, start 0, marks 0 1, steps 0-1, 1-0. Q: 3 states, start 0, marks 0 0 1, steps 0-1, 1-2, 2-0.
 abbrev pub P : List ℕ

@@ -2,4 +2,5 @@ pub mod Demand1
 pub mod Demand2
 pub mod Ranks
 pub mod Demand3
+pub mod Ask2
 pub mod Examples

@@ -12,6 +12,13 @@ abbrev pub All {ℓ} : {A : Type ℓ} → (A → Type 0) → List A → Type 0
 All P [] = Unit {0}
 All P (x ∷ l) = P x × All P l
 
+-- The two lists have equally many elements, and each element of the first is in the relation to the one in its place in the second.
+abbrev pub Beside : {A B : Type 0} → (A → B → Type 0) → List A → List B → Type 0
+Beside R [] [] = Unit {0}
+Beside R [] (y ∷ ys) = ⊥
+Beside R (x ∷ xs) [] = ⊥
+Beside R (x ∷ xs) (y ∷ ys) = R x y × Beside R xs ys
+
 -- n elements of the list have the property.
 abbrev pub Counts : {A : Type 0} → (A → Type 0) → List A → ℕ → Type 0
 Counts P [] n = n ≡ 0

@@ -111,7 +111,7 @@ module _ (v : View) (r : Ranks) (j t : ℕ) where
   meets-first Match p = inr (inr (p .2))
 
   -- two clauses are not both the first
-  first-one : (c k : Clause) → MetFirstBy v r j t c → MetFirstBy v r j t k → c ≡ k
+  pub first-one : (c k : Clause) → MetFirstBy v r j t c → MetFirstBy v r j t k → c ≡ k
   first-one Step Step p q = refl
   first-one Step Stutter p q = absurd (q .0 p)
   first-one Step Match p q = absurd (q .0 p)
