@@ -1,7 +1,7 @@
 -- Ask 2 of document 02, `listing-exact`: where the judge accepts, no check has a cause that applies, so every obligation is met and has its line. Assumes
 -- nothing.
 use Prim.Native.Nat.{ℕ, suc}
-use mathlib.Core.Path.{_≡_, refl, sym, ap, _∙_, subst}
+use mathlib.Core.Path.{_≡_, refl, sym, ap, subst}
 use mathlib.Core.Logic.{_⊎_, inl, inr, ⊎-elim}
 use mathlib.Core.List.{List, [], _∷_, _++_, flatMap}
 use native.Mathlib.Omega.{arith}
@@ -29,7 +29,6 @@ use Rattle.obligations.proofs.OutcomeLaws.{outcome-is, first-one}
 use Rattle.checker.specs.Judge.{judgeAnswer}
 use Rattle.checker.proofs.JudgeCauseLaws.{afterCertificate, afterRight, afterLeft}
 use Rattle.lister.specs.Listing.{Line, outcomeLines, checkLines, listing, printed}
-use Rattle.demands.specs.Demand1.{Accepted}
 use Rattle.demands.specs.Ask2.{obligationsIn, Says, LineOf, ListingExact}
 use Rattle.demands.proofs.JudgeAnswers.{zero-accepted}
 

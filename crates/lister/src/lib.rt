@@ -116,12 +116,12 @@ fn list_pair(
         own: s,
         other: t,
     };
-    let end = list_steps(ours, theirs, certificate, left, from_s, output, at);
     let from_t = Place {
         side: 1,
         own: t,
         other: s,
     };
+    let end = list_steps(ours, theirs, certificate, left, from_s, output, at);
     list_steps(theirs, ours, certificate, right, from_t, output, end)
 }
 
