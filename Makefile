@@ -1,4 +1,4 @@
-# make run     prove and build the judge's program, and run it on the example P, Q, K of the format's document
+# make run     prove and build the two programs, and run them on the example P, Q, K of the format's document
 # make test    the whole gate: layout; rt ci, which proves every crate from nothing, tries the must-fail edits and runs the programs; the Rust tests on
 #              what it proved. Where all of this passes, the last line is that of rt ci, 'N passed, 0 failed', said again
 # make bench   speed of the proved judge, the proved maker and the listing program beside Rust versions, as ratios in one run; no part of the gate
@@ -28,8 +28,11 @@ SHELL = /bin/bash
 
 run:
 	rt check judge
+	rt check listing
 	@echo "P, Q, K are judged:"
 	@sh examples/input examples/P.hex examples/Q.hex examples/K.hex | target/bin/judge
+	@echo "and listed:"
+	@sh examples/input examples/P.hex examples/Q.hex examples/K.hex | target/bin/listing
 
 test:
 	rt fmt --check
