@@ -69,7 +69,8 @@ module _ (left right c : List ℕ) where
   unfolding judgeAnswer
   zero-none e =
       causes.zero-none (λ a. a .code ≡ 0) (judgeCauses left right c) (judgeAnswer left right c)
-      (decided-answer (λ a. a .code ≡ 0) _ (judgeVerdict left right c) judge-decided (λ y g n. refl)) judgeNumber judge-numbers (λ file h. h) (λ a z. z) e .0
+      (decided-answer (λ a. a .code ≡ 0) _ (judgeVerdict left right c) judge-decided (λ y g n. refl))
+      judgeNumber judge-numbers (λ file h. h) (λ a z. z) e .0
 
   pub zero-read : judgeAnswer left right c .code ≡ 0 → AllRead left right c (headOf left) (headOf right)
   zero-read e =

@@ -41,7 +41,8 @@ LineOf v r (rightStep s t j) line = Says (flip v) (swap r) s 1 s t j line
 -- What is listed and printed, beside the judge's answer.
 pub record ListingExact (left right c : List ℕ) (answer : Answer) : Type 0 where
   -- Where the judge accepts, there is one line for each obligation of every related pair, in judging order.
-  pub lines : answer .code ≡ 0 → Beside (LineOf (view left right c) (ranks left right c)) (obligationsIn (checks (view left right c))) (listingOf left right c)
+  pub lines : answer .code ≡ 0
+      → Beside (LineOf (view left right c) (ranks left right c)) (obligationsIn (checks (view left right c))) (listingOf left right c)
   -- The lines with clause 1, 2 and 3 are as many as the answer's b, c and d say.
   pub by-2a : answer .code ≡ 0 → Counts (λ l. l .clause ≡ 1) (listingOf left right c) (answer .b)
   pub by-2b : answer .code ≡ 0 → Counts (λ l. l .clause ≡ 2) (listingOf left right c) (answer .c)

@@ -26,6 +26,11 @@ use Rattle.lister.specs.Listing.{listing, lineText, printed}
 use Rattle.lister.specs.OnSides.{allText}
 use Rattle.lister.proofs.ListingLaws.{text-is, listing-short}
 
+-- The text read off two sides is what is printed for three files, and not too long.
+pub record Accepts (left right c ours theirs : List ℕ) (own other : Run) : Type 0 where
+  pub text : allText ours theirs c own other ≡ printed left right c
+  pub short : length (allText ours theirs c own other) ≤ 557056
+
 module _ (left right c : List ℕ) where
   -- on a refusal the six numbers are printed
   pub refusal-text : {answer : Answer} {end : ℕ} {before after : List ℕ} → answer ≡ judgeAnswer left right c → (answer .code ≡ 0 → ⊥)
@@ -35,26 +40,26 @@ module _ (left right c : List ℕ) where
       wrote-front (fitting (answerText answer) 0 before) w ∙ fitting-room (answerText answer) 0 before (omega arith)
       ∙ rw e (sym (rw (ne-eqb _ 0 (λ q. n (ap (λ (a : Answer). a .code) e ∙ q)))))
 
-  module _ (zero : judgeAnswer left right c .code ≡ 0) (bytes : AreBytes c) {h k : Head} (eh : h ≡ headOf left) (ek : k ≡ headOf right) {z : Sizes}
-      {words ours theirs : List ℕ} (made : SidesMade left right c h k z words ours theirs) {own other : Run} (eo : own ≡ leftRun z) (eo′ : other ≡ rightRun z)
-    where
-      read : AllRead left right c h k
-      read = rw (eh, ek) (zero-read left right c zero)
+  module _ (zero : judgeAnswer left right c .code ≡ 0) (bytes : AreBytes c) {h k : Head} (eh : h ≡ headOf left) (ek : k ≡ headOf right)
+      {z : Sizes} {words ours theirs : List ℕ} (made : SidesMade left right c h k z words ours theirs)
+      {own other : Run} (eo : own ≡ leftRun z) (eo′ : other ≡ rightRun z) where
+    read : AllRead left right c h k
+    read = rw (eh, ek) (zero-read left right c zero)
 
-      sides : SidesRead left right c ours theirs
-      sides = sides-read left right c read made bytes
+    sides : SidesRead left right c ours theirs
+    sides = sides-read left right c read made bytes
 
-      text-of : allText ours theirs c own other ≡ flatMap lineText (listing (viewIn ours theirs) (certifiedRanks left right c))
-      text-of =
-          rw (eo, eo′, made-sizes left right c read made)
-          (text-is ours theirs c (leftRun (sizesOf left right)) (rightRun (sizesOf left right)) (certifiedRanks left right c) (sides .holding))
+    text-of : allText ours theirs c own other ≡ flatMap lineText (listing (viewIn ours theirs) (certifiedRanks left right c))
+    text-of =
+        rw (eo, eo′, made-sizes left right c read made)
+        (text-is ours theirs c (leftRun (sizesOf left right)) (rightRun (sizesOf left right)) (certifiedRanks left right c) (sides .holding))
 
-      pub accepted-text : allText ours theirs c own other ≡ printed left right c
-      unfolding printed
-      accepted-text =
-          text-of ∙ ap (λ (v : View). flatMap lineText (listing v (certifiedRanks left right c))) (sides .here) ∙ sym (rw (eq-eqb _ 0 zero))
-
-      pub accepted-short : length (allText ours theirs c own other) ≤ 557056
-      accepted-short =
-          rw text-of
-          (listing-short (viewIn ours theirs) (sides .holding .formed) (certifiedRanks left right c) (states-few ours) (states-few theirs) (steps-few ours) (steps-few theirs))
+    pub accepts : Accepts left right c ours theirs own other
+    unfolding printed
+    accepts =
+        record {
+          text = text-of ∙ ap (λ (v : View). flatMap lineText (listing v (certifiedRanks left right c))) (sides .here) ∙ sym (rw (eq-eqb _ 0 zero));
+          short = rw text-of
+              (listing-short (viewIn ours theirs) (sides .holding .formed) (certifiedRanks left right c)
+              (states-few ours) (states-few theirs) (steps-few ours) (steps-few theirs));
+        }

@@ -110,7 +110,8 @@ state-below v w r j t h Stutter x p = rw (p .1 .0) h
 state-below v w r j t h Match x p = let q = p .1 .0 in rw (← (q .3)) (w .there .to< (q .0) (q .1))
 
 outcome-short : (v : View) (w : WellFormed v) (r : Ranks) (side s t j i : ℕ) → v .other .states ≤ 64 → i < v .other .states
-    → side < 10 → s < 100 → t < 100 → j < 1000 → (o : Outcome) → HasOutcome v r j i o → length (flatMap lineText (outcomeLines side s t j o)) ≤ 17
+    → side < 10 → s < 100 → t < 100 → j < 1000 → (o : Outcome) → HasOutcome v r j i o
+    → length (flatMap lineText (outcomeLines side s t j o)) ≤ 17
 unfolding flatMap
 outcome-short v w r side s t j i few h a b c d (Met clause x) p =
     let l = state-below v w r j i h clause x p in

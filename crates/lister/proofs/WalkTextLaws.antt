@@ -41,7 +41,8 @@ module _ (ours theirs certificate : List ℕ) (run : Run) (place : Place) (j at 
 
   pub one-line : (clause : Clause) (x : ℕ) {left right number end : ℕ} {l after : List ℕ} → o ≡ Met clause x → left ≡ leftState place
       → right ≡ rightState place → number ≡ clauseNumber clause → at + mostText ≤ length l
-      → Wrote (fitting (sixText (place .side) left right j number x) at l) at end l after → Wrote (stepText ours theirs certificate run place j) at end l after
+      → Wrote (fitting (sixText (place .side) left right j number x) at l) at end l after
+      → Wrote (stepText ours theirs certificate run place j) at end l after
   unfolding flatMap
   one-line clause x {end = end} {l = l} {after = after} q el er en room w =
       let t = rw (fitting-room _ at l room, el, er, en) at w in

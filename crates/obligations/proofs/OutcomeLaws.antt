@@ -87,7 +87,8 @@ module _ (v : View) (r : Ranks) (j t : ℕ) where
 
   -- ---- the outcome
 
-  has-outcome : (a b c d : Bool) (x y : ℕ) → Decides a (Meets2a v j t) → Decides b (Meets2b v r j t) → Decides c (Meets2c v r j t) → Decides d (Apart v j t)
+  has-outcome : (a b c d : Bool) (x y : ℕ)
+      → Decides a (Meets2a v j t) → Decides b (Meets2b v r j t) → Decides c (Meets2c v r j t) → Decides d (Apart v j t)
       → (T a → Smallest (ServesBy v r j t Step) x) → (T c → Smallest (ServesBy v r j t Match) y)
       → HasOutcome v r j t (cond a (Met Step x) (outcomeAfter2a b t c y d))
   unfolding outcomeAfter2a

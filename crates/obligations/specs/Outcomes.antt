@@ -15,7 +15,8 @@ use Rattle.outcomes.specs.declared.Outcome.the-variants.{Met, Failed}
 -- u, t are unrelated, and no step from t goes to a state related to s. Only silent steps count, where steps have keys.
 abbrev pub Apart : View → ℕ → ℕ → Type 0
 Apart v j t =
-    (¬ Stays v j t) × ((k : ℕ) → k < v .other .steps → v .other .from k ≡ t → T (v .other .silent k) → ¬ T (v .related (v .own .from j) (v .other .to k)))
+    (¬ Stays v j t)
+    × ((k : ℕ) → k < v .other .steps → v .other .from k ≡ t → T (v .other .silent k) → ¬ T (v .related (v .own .from j) (v .other .to k)))
 
 module _ (v : View) (r : Ranks) (j t : ℕ) where
   open View v using (own, other, related, serves)

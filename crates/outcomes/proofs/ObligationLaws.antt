@@ -194,7 +194,8 @@ module _ (v : View) (r : Ranks) (j t : ℕ) (f : Facing) (faces : Faces v j t f)
   answer-tells : Tells other (meets2a v j t) (hasBit (bitAnd (f .serving .0) (f .to .0)))
   answer-tells = both-tell (serves j) (f .serving .0) (f .to .0) (own .to j) (faces .serving) (faces .related-to) (faces .serving<)
 
-  ahead-tells : Tells other (λ k. eqb (other .from k) t && other .silent k && related (own .from j) (other .to k)) (hasBit (bitAnd (f .silent .0) (f .from .0)))
+  ahead-tells : Tells other (λ k. eqb (other .from k) t && other .silent k && related (own .from j) (other .to k))
+      (hasBit (bitAnd (f .silent .0) (f .from .0)))
   ahead-tells = both-tell (other .silent) (f .silent .0) (f .from .0) (own .from j) (faces .silent) (faces .related-from) (faces .silent<)
 
   stays-is : staysAt f t ≡ stays v j t

@@ -112,7 +112,8 @@ six-most a b c d e f =
 pub wrote-front : (text : List ℕ) {end : ℕ} {before after : List ℕ} → Wrote text 0 end before after → take end after ≡ text
 wrote-front text {before = before} w = ap₂ take (w .end-is) (w .after-is) ∙ written-front text 0 before zero-le
 
-pub wrote-fits : (text : List ℕ) {end : ℕ} {before after : List ℕ} → length text ≤ length before → Wrote text 0 end before after → end ≤ length after
+pub wrote-fits : (text : List ℕ) {end : ℕ} {before after : List ℕ} → length text ≤ length before → Wrote text 0 end before after
+    → end ≤ length after
 wrote-fits text h w =
     let e = w .end-is in
     let l = wrote-length w (omega arith) in

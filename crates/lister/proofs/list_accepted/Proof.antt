@@ -7,24 +7,33 @@ use borrow.Author.Needs.{needs}
 use Rattle.certificates.specs.CertificateModel.{AreBytes}
 use Rattle.checker.proofs.SidesReadLaws.{SidesMade}
 use Rattle.texts.proofs.TextLaws.{wrote-front, wrote-fits}
-use Rattle.lister.proofs.AcceptedLaws.{accepted-text, accepted-short}
+use Rattle.lister.proofs.AcceptedLaws.{Accepts, accepts}
 use Rattle.lister.proofs.list_accepted.Statement.{statement}
 use Rattle.lister.proofs.list_accepted.Tie as tie
 
--- what was made before the lines are put
-made : (c : tie.After-right) →
-    let theirs = c .before .before .before .before in
-    let ours = theirs .before .before .before .before in
-    let words = ours .before .before .before .before .before .before in
-    let sizes = words .before .before .before in
-    let a = sizes .before .before .before .before .before .before .before .args in
-    SidesMade (now (a .left)) (now (a .right)) (now (a .certificate)) (sizes .before .before .head-of .result) (sizes .before .head-of2 .result) (sizes .of .result)
-    (words .row-words .result) (ours .side-of .result) (theirs .side-of2 .result)
+-- where each part was made
+abbrev theirs-at : tie.After-right → tie.After-side-of2
+theirs-at c = c .before .before .before .before
+
+abbrev ours-at : tie.After-right → tie.After-side-of
+ours-at c = theirs-at c .before .before .before .before
+
+abbrev columns-at : tie.After-right → tie.After-column-words
+columns-at c = ours-at c .before .before .before .before
+
+abbrev words-at : tie.After-right → tie.After-row-words
+words-at c = columns-at c .before .before
+
+abbrev sizes-at : tie.After-right → tie.After-of
+sizes-at c = words-at c .before .before .before
+
+abbrev start-at : tie.After-right → tie.Start
+start-at c = sizes-at c .before .before .before .before .before .before .before
+
+made : (c : tie.After-right) → let a = start-at c .args in
+    SidesMade (now (a .left)) (now (a .right)) (now (a .certificate)) (sizes-at c .before .before .head-of .result) (sizes-at c .before .head-of2 .result)
+    (sizes-at c .of .result) (words-at c .row-words .result) (ours-at c .side-of .result) (theirs-at c .side-of2 .result)
 made c =
-    let theirs = c .before .before .before .before in
-    let ours = theirs .before .before .before .before in
-    let columns = ours .before .before .before .before in
-    let words = columns .before .before in
     record {
       rows = _;
       columns = _;
@@ -32,20 +41,26 @@ made c =
       steps = _;
       labels′ = _;
       steps′ = _;
-      sizes-is = words .before .before .before .of .ensures;
-      rows-is = words .before .before .rows .ensures;
-      words-is = words .row-words .ensures;
-      columns-is = columns .column-words .ensures;
-      labels-is = ours .before .before .before .labels .ensures;
-      steps-is = ours .before .before .steps .ensures;
-      labels-is′ = theirs .before .before .before .labels2 .ensures;
-      steps-is′ = theirs .before .before .steps2 .ensures;
-      ours-is = ours .side-of .ensures;
-      theirs-is = theirs .side-of2 .ensures;
+      sizes-is = sizes-at c .of .ensures;
+      rows-is = words-at c .before .before .rows .ensures;
+      words-is = words-at c .row-words .ensures;
+      columns-is = columns-at c .column-words .ensures;
+      labels-is = ours-at c .before .before .before .labels .ensures;
+      steps-is = ours-at c .before .before .steps .ensures;
+      labels-is′ = theirs-at c .before .before .before .labels2 .ensures;
+      steps-is′ = theirs-at c .before .before .steps2 .ensures;
+      ours-is = ours-at c .side-of .ensures;
+      theirs-is = theirs-at c .side-of2 .ensures;
     }
 
-bytes : (c : tie.After-right) → AreBytes (now (c .before .before .before .before .before .before .before .before .before .before .before .before .before .before .before .before .before .before .before .before .before .before .before .before .args .certificate))
-bytes c = λ i. omega (arith, c .before .before .before .before .before .before .before .before .before .before .before .before .before .before .before .before .before .before .before .before .before .shared-slice-known3 .given i)
+accepted : (c : tie.After-right) → let a = start-at c .args in
+    Accepts (now (a .left)) (now (a .right)) (now (a .certificate)) (ours-at c .side-of .result) (theirs-at c .side-of2 .result)
+    (c .before .left .result) (c .right .result)
+accepted c =
+    let a = start-at c .args in
+    let bytes : AreBytes (now (a .certificate)) = λ i. omega (arith, sizes-at c .before .before .before .before .shared-slice-known3 .given i) in
+    accepts (now (a .left)) (now (a .right)) (now (a .certificate)) (start-at c .pre .0) bytes (sizes-at c .before .before .head-of .ensures)
+    (sizes-at c .before .head-of2 .ensures) (made c) (c .before .left .ensures) (c .right .ensures)
 
 inside : {text long : ℕ} → text ≤ 557056 → long ≡ 557182 → text ≤ long
 inside s l = omega arith
@@ -99,27 +114,16 @@ right-requires : tie.Need-right-requires
 right-requires c κs = search needs
 
 list-all-requires : tie.Need-list-all-requires
-list-all-requires c κs =
-    let a = c .before .before .before .before .before .before .before .before .before .before .before .before .before .before .before .before .before .before .before .before .before .before .before .before .before .args in
-    let s = accepted-short (now (a .left)) (now (a .right)) (now (a .certificate)) (c .before .before .before .before .before .before .before .before .before .before .before .before .before .before .before .before .before .before .before .before .before .before .before .before .before .pre .0) (bytes (c .before)) (c .before .before .before .before .before .before .before .before .before .before .before .before .before .before .before .before .before .before .before .before .head-of .ensures)
-    (c .before .before .before .before .before .before .before .before .before .before .before .before .before .before .before .before .before .before .before .head-of2 .ensures) (made (c .before)) (c .before .before .left .ensures) (c .before .right .ensures) in
-    room s (c .before .before .before .before .before .before .before .before .before .before .before .before .before .before .before .before .before .before .before .before .before .before .before .before .before .pre .1)
+list-all-requires c κs = room (accepted (c .before) .short) (start-at (c .before) .pre .1)
 
 same-length : tie.Need-same-length
 same-length c = search needs
 
 returns : tie.Need-returns
 returns c =
-    let e = c .before .before .before .before in
-    let a = e .before .before .before .before .before .before .before .before .before .before .before .before .before .before .before .before .before .before .before .before .before .before .before .before .args in
-    let short =
-    accepted-short (now (a .left)) (now (a .right)) (now (a .certificate)) (e .before .before .before .before .before .before .before .before .before .before .before .before .before .before .before .before .before .before .before .before .before .before .before .before .pre .0) (bytes e) (e .before .before .before .before .before .before .before .before .before .before .before .before .before .before .before .before .before .before .before .head-of .ensures)
-    (e .before .before .before .before .before .before .before .before .before .before .before .before .before .before .before .before .before .before .head-of2 .ensures) (made e) (e .before .left .ensures) (e .right .ensures) in (
-      wrote-fits _ (inside short (e .before .before .before .before .before .before .before .before .before .before .before .before .before .before .before .before .before .before .before .before .before .before .before .before .pre .1)) (c .before .before .list-all .ensures),
-      wrote-front _ (c .before .before .list-all .ensures)
-          ∙ accepted-text (now (a .left)) (now (a .right)) (now (a .certificate)) (e .before .before .before .before .before .before .before .before .before .before .before .before .before .before .before .before .before .before .before .before .before .before .before .before .pre .0) (bytes e) (e .before .before .before .before .before .before .before .before .before .before .before .before .before .before .before .before .before .before .before .head-of .ensures)
-          (e .before .before .before .before .before .before .before .before .before .before .before .before .before .before .before .before .before .before .head-of2 .ensures) (made e) (e .before .left .ensures) (e .right .ensures),
-    )
+    let made = c .before .before .before .before in
+    let put = c .before .before .list-all .ensures in
+    (wrote-fits _ (inside (accepted made .short) (start-at made .pre .1)) put, wrote-front _ put ∙ accepted made .text)
 
 pub list-accepted-spec : {M : Type 1} → statement M
 list-accepted-spec =

@@ -33,7 +33,8 @@ list-pair-requires c κs =
     let l = c .before .before .loop in
     let text = pairText (now (a .ours)) (now (a .theirs)) (now (a .certificate)) (a .left) (a .right) (a .s) in
     let n = systemIn (now (a .theirs)) .states in
-    putting-room _ (a .at) (now (a .output)) (l .inv) (text (l .t)) (joinFrom (l .t + 1) n text) (states-next n text (l .t) (omega arith)) 126 (c .before .before .before .before .before .before .pre)
+    putting-room _ (a .at) (now (a .output)) (l .inv) (text (l .t)) (joinFrom (l .t + 1) n text) (states-next n text (l .t) (omega arith)) 126
+    (c .before .before .before .before .before .before .pre)
 
 add-t : tie.Need-add-t Inv-loop μ-loop
 add-t c = search needs

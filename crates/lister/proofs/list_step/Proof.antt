@@ -37,11 +37,15 @@ same-length c = search needs
 
 returns-2 : tie.Need-returns-2
 returns-2 c =
-    let o = c .before .before .before .before .before .before .before .before .before .before in
-    let a = o .before .before .before .args in
-    one-line (now (a .ours)) (now (a .theirs)) (now (a .certificate)) (a .run) (a .place) (a .j) (a .at)
-    (o .obligation-at .ensures) _ _ (c .before .before .before .before .before .before .before .before .outcome .given .1) (c .before .before .before .before .before .before .left .ensures) (c .before .before .before .before .before .right .ensures) (c .before .before .before .before .number .ensures)
-    (o .before .before .before .pre) (c .before .before .put-six .ensures)
+    let number = c .before .before .before .before in
+    let left = number .before .before in
+    let outcome = left .before .before in
+    let obligation = outcome .before .before in
+    let start = obligation .before .before .before in
+    let a = start .args in
+    one-line (now (a .ours)) (now (a .theirs)) (now (a .certificate)) (a .run) (a .place) (a .j) (a .at) (obligation .obligation-at .ensures) _ _
+    (outcome .outcome .given .1) (left .left .ensures) (number .before .right .ensures) (number .number .ensures) (start .pre)
+    (c .before .before .put-six .ensures)
 
 pub list-step-spec : {M : Type 1} → statement M
 list-step-spec =

@@ -34,38 +34,48 @@ list-step-requires c κs = putting-space _ _ _ (c .before .before .loop .inv) 12
 next-requires : tie.Need-next-requires Inv-loop μ-loop
 next-requires c κs = search needs
 
+abbrev start-at : tie.After-next Inv-loop μ-loop → tie.Start Inv-loop μ-loop
+start-at c = c .before .before .before .before .before .before .before .before .before .before
+
 -- the line of step j is put, and k is the next step
-step-put : (c : tie.After-next Inv-loop μ-loop) (k : ℕ) → let a = c .before .before .before .before .before .before .before .before .before .before .args in let l = c .before .before .before .before .before .before .loop in k ≡ nextStep (now (a .ours)) (l .j)
+step-put : (c : tie.After-next Inv-loop μ-loop) (k : ℕ) →
+    let a = start-at c .args in
+    let l = c .before .before .before .before .before .before .loop in
+    k ≡ nextStep (now (a .ours)) (l .j)
     → Putting (stepsText (now (a .ours)) (now (a .theirs)) (now (a .certificate)) (a .run) (a .place)) (a .at) (now (a .output))
     (stepsFromText (now (a .ours)) (now (a .theirs)) (now (a .certificate)) (a .run) (a .place) k) (c .before .before .before .list-step .result)
     (c .before .before .before .list-step .last .1 .1 .1 .1 .1 .1 .0)
 step-put c k e =
-    let a = c .before .before .before .before .before .before .before .before .before .before .args in
+    let a = start-at c .args in
     let l = c .before .before .before .before .before .before .loop in
     putting-next _ (a .at) (now (a .output)) (l .inv) _ _
-    (steps-next (now (a .ours)) (now (a .theirs)) (now (a .certificate)) (a .run) (a .place) (l .j) (omega arith) e) 126 (c .before .before .before .before .before .before .before .before .before .before .pre)
-    (c .before .before .before .list-step .ensures)
+    (steps-next (now (a .ours)) (now (a .theirs)) (now (a .certificate)) (a .run) (a .place) (l .j) (omega arith) e) 126
+    (start-at c .pre) (c .before .before .before .list-step .ensures)
 
 -- there is no next step
-last-put : (c : tie.Then1 Inv-loop μ-loop) → let a = c .before .before .before .before .before .before .before .before .before .before .before .args in
+last-put : (c : tie.Then1 Inv-loop μ-loop) → let a = start-at (c .before) .args in
     Putting (stepsText (now (a .ours)) (now (a .theirs)) (now (a .certificate)) (a .run) (a .place)) (a .at) (now (a .output))
     (stepsFromText (now (a .ours)) (now (a .theirs)) (now (a .certificate)) (a .run) (a .place) 256) (c .before .before .before .before .list-step .result)
     (c .before .before .before .before .list-step .last .1 .1 .1 .1 .1 .1 .0)
-last-put c = step-put (c .before) 256 (next-none (now (c .before .before .before .before .before .before .before .before .before .before .before .args .ours)) (c .before .before .before .before .before .before .before .loop .j) (c .before .next .ensures) (c .if1 .taken))
+last-put c =
+    let n = c .before in
+    step-put n 256 (next-none (now (start-at n .args .ours)) (n .before .before .before .before .before .before .loop .j) (n .next .ensures) (c .if1 .taken))
 
 same-length : tie.Need-same-length Inv-loop μ-loop
-same-length c = putting-length _ _ _ (last-put c) 126 (c .before .before .before .before .before .before .before .before .before .before .before .pre)
+same-length c = putting-length _ _ _ (last-put c) 126 (start-at (c .before) .pre)
 
 returns : tie.Need-returns Inv-loop μ-loop
 returns c =
-    let a = c .before .before .before .before .before .before .before .before .before .before .before .args in
+    let a = start-at (c .before) .args in
     putting-end _ _ _ (last-put c) (steps-end (now (a .ours)) (now (a .theirs)) (now (a .certificate)) (a .run) (a .place) 256 (omega arith))
 
 loop-less : tie.Need-loop-less Inv-loop μ-loop
 loop-less c = omega arith
 
 loop-again : tie.Need-loop-again Inv-loop μ-loop
-loop-again c = step-put (c .before) _ (next-later (now (c .before .before .before .before .before .before .before .before .before .before .before .args .ours)) (c .before .before .before .before .before .before .before .loop .j) (c .before .next .ensures) (c .if1 .left))
+loop-again c =
+    let n = c .before in
+    step-put n _ (next-later (now (start-at n .args .ours)) (n .before .before .before .before .before .before .loop .j) (n .next .ensures) (c .if1 .left))
 
 same-length-2 : tie.Need-same-length-2 Inv-loop μ-loop
 same-length-2 c = putting-length _ _ _ (c .before .loop .inv) 126 (c .before .before .before .before .before .pre)
