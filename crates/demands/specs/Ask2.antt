@@ -21,8 +21,8 @@ obligationsIn (labelsOf s t ∷ cs) = obligationsIn cs
 obligationsIn (leftStep s t j ∷ cs) = leftStep s t j ∷ obligationsIn cs
 obligationsIn (rightStep s t j ∷ cs) = rightStep s t j ∷ obligationsIn cs
 
--- The line says how the obligation of the own step j at `at` is met, at the pair s, t of which the side has the step: by the first of 2a, 2b and 2c that
--- holds, with the smallest state that serves it by this clause.
+-- The line says how the obligation of the own step j at the state `at` is met: it names the side, the pair s, t and the step, the first of 2a, 2b and 2c
+-- that holds, and the smallest state that serves it by this clause.
 pub record Says (v : View) (r : Ranks) (at side s t j : ℕ) (line : Line) : Type 0 where
   pub side-is : line .side ≡ side
   pub left-is : line .left ≡ s

@@ -1,9 +1,9 @@
 -- Where the judge accepts, the text that is read off the two sides is what the program prints, and the output has room for it. Assumes nothing.
 use Prim.Native.Nat.{ℕ, _≤_}
-use mathlib.Core.Path.{_≡_, ap, sym, _∙_}
+use mathlib.Core.Path.{_≡_, ap, sym, _∙_, subst}
 use mathlib.Core.List.{List, flatMap}
 use native.Mathlib.Omega.{arith}
-use lib.ListN.{length, take}
+use lib.ListN.{length}
 use borrow.Author.Tests.{eq-eqb, ne-eqb}
 use Rattle.bisimulation.specs.Systems.{View}
 use Rattle.answers.specs.declared.Answer.{Answer}
@@ -21,7 +21,7 @@ use Rattle.checker.proofs.JudgeCauseLaws.{zero-read}
 use Rattle.checker.proofs.SidesReadLaws.{SidesMade, SidesRead, made-sizes, sides-read}
 use Rattle.texts.specs.Texts.{answerText, fitting}
 use Rattle.texts.specs.Wrote.{Wrote}
-use Rattle.texts.proofs.TextLaws.{fitting-room, wrote-front}
+use Rattle.texts.proofs.TextLaws.{fitting-room}
 use Rattle.lister.specs.Listing.{listing, lineText, printed}
 use Rattle.lister.specs.OnSides.{allText}
 use Rattle.lister.proofs.ListingLaws.{text-is, listing-short}
@@ -34,11 +34,11 @@ pub record Accepts (left right c ours theirs : List ℕ) (own other : Run) : Typ
 module _ (left right c : List ℕ) where
   -- on a refusal the six numbers are printed
   pub refusal-text : {answer : Answer} {end : ℕ} {before after : List ℕ} → answer ≡ judgeAnswer left right c → (answer .code ≡ 0 → ⊥)
-      → 126 ≤ length before → Wrote (fitting (answerText answer) 0 before) 0 end before after → take end after ≡ printed left right c
+      → 126 ≤ length before → Wrote (fitting (answerText answer) 0 before) 0 end before after → Wrote (printed left right c) 0 end before after
   unfolding printed
-  refusal-text {answer} {before = before} e n room w =
-      wrote-front (fitting (answerText answer) 0 before) w ∙ fitting-room (answerText answer) 0 before (omega arith)
-      ∙ rw e (sym (rw (ne-eqb _ 0 (λ q. n (ap (λ (a : Answer). a .code) e ∙ q)))))
+  refusal-text {answer} {end} {before} {after} e n room w =
+      subst (λ (text : List ℕ). Wrote text 0 end before after)
+      (fitting-room (answerText answer) 0 before (omega arith) ∙ rw e (sym (rw (ne-eqb _ 0 (λ q. n (ap (λ (a : Answer). a .code) e ∙ q)))))) w
 
   module _ (zero : judgeAnswer left right c .code ≡ 0) (bytes : AreBytes c) {h k : Head} (eh : h ≡ headOf left) (ek : k ≡ headOf right)
       {z : Sizes} {words ours theirs : List ℕ} (made : SidesMade left right c h k z words ours theirs)

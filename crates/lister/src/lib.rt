@@ -23,7 +23,7 @@ use texts::put_answer;
 use texts::put_six;
 ghost use mathlib.Core.Path.{_≡_};
 ghost use Prim.Native.Nat.{_+_, _≤_};
-ghost use lib.ListN.{length, take};
+ghost use lib.ListN.{length};
 ghost use Rattle.texts.specs.Texts.{mostText};
 ghost use Rattle.texts.specs.Wrote.{Wrote};
 ghost use Rattle.checker.specs.Judge.{judgeAnswer};
@@ -179,7 +179,8 @@ fn list_accepted(left: &[u8], right: &[u8], certificate: &[u8], output: &mut [u8
     requires { ⌜ judgeAnswer (now left) (now right) (now certificate) .code ≡ 0 ⌝ }
     requires { ⌜ length (now output) ≡ 557182 ⌝ }
     ensures fits { λ r. ⌜ r ≤ length (now (output .exit)) ⌝ }
-    ensures text { λ r. ⌜ take r (now (output .exit)) ≡ printed (now (left .entry)) (now (right .entry)) (now (certificate .entry)) ⌝ }
+    ensures text { λ r. ⌜ Wrote (printed (now (left .entry)) (now (right .entry)) (now (certificate .entry))) 0 r
+        (now (output .entry)) (now (output .exit)) ⌝ }
 {
     let head = head_of(left);
     let head2 = head_of(right);
@@ -203,7 +204,8 @@ fn list_accepted(left: &[u8], right: &[u8], certificate: &[u8], output: &mut [u8
 // order, else the judge's six numbers.
 pub fn list(left: &[u8], right: &[u8], certificate: &[u8], output: &mut [u8; MOST]) -> usize
     ensures fits { λ r. ⌜ r ≤ length (now (output .exit)) ⌝ }
-    ensures text { λ r. ⌜ take r (now (output .exit)) ≡ printed (now (left .entry)) (now (right .entry)) (now (certificate .entry)) ⌝ }
+    ensures text { λ r. ⌜ Wrote (printed (now (left .entry)) (now (right .entry)) (now (certificate .entry))) 0 r
+        (now (output .entry)) (now (output .exit)) ⌝ }
 {
     let places: &mut [u8] = output;
     let answer = judge(left, right, certificate);

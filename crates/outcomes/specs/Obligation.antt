@@ -30,7 +30,7 @@ abbrev pub failureNumber : Failure → ℕ
 failureNumber Apart = 18
 failureNumber Rank = 19
 
--- The smallest state that some step which passes the test enters. None enters a state above the greatest of their ends, so none is looked at.
+-- The smallest state that some step which passes the test enters, and one more than the greatest end of a step where none passes.
 unfoldable pub smallestEntered : System → (ℕ → Bool) → ℕ
 smallestEntered S test = firstBelow (suc (mostBelow (S .steps) (S .to))) (λ x. anyBelow (S .steps) (λ k. test k && eqb (S .to k) x))
 

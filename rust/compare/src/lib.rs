@@ -196,13 +196,7 @@ pub fn program(count: usize, seed: u64, mut under_test: impl FnMut(&[u8]) -> Str
     for case in ProgramCases::new(seed, count) {
         let expected = oracle::program(&case.input);
         let found = under_test(&case.input);
-        assert!(
-            found == expected,
-            "the program differs ({})\nexpected {expected:?}\nfound    {found:?}\ninput    {}",
-            case.label,
-            hex(&case.input),
-        );
-
+        require_same("program", case.label, &case.input, &expected, &found);
         report.see_label(case.label);
         report.see(case.label);
         let mut answer = [0; 6];
@@ -212,6 +206,31 @@ pub fn program(count: usize, seed: u64, mut under_test: impl FnMut(&[u8]) -> Str
         report.see(name(answer, "accepted"));
     }
     report
+}
+
+/// Panics where what a program printed for an input is not what was expected.
+fn require_same(program: &str, label: &str, input: &[u8], expected: &str, found: &str) {
+    assert!(
+        found == expected,
+        "the {program} differs ({label}), {}\ninput    {}",
+        first_difference(expected, found),
+        hex(input),
+    );
+}
+
+/// The first line in which two different texts differ.
+fn first_difference(expected: &str, found: &str) -> String {
+    let mut expected = expected.split_inclusive('\n');
+    let mut found = found.split_inclusive('\n');
+    let mut number = 1;
+    loop {
+        match (expected.next(), found.next()) {
+            (expected, found) if expected != found => {
+                return format!("line {number}\nexpected {expected:?}\nfound    {found:?}");
+            }
+            _ => number += 1,
+        }
+    }
 }
 
 /// Bytes in hexadecimal.

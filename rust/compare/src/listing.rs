@@ -1,9 +1,9 @@
 //! Compares a listing program with the oracle's.
 
 use crate::accepted::Accepted;
-use crate::hex;
 use crate::names::{mix_name, mix_names, name, names, table_codes};
 use crate::report::Report;
+use crate::require_same;
 use inputs::{ListingCases, PROGRAM_FORMS, VERSIONS};
 use oracle::Line;
 
@@ -29,14 +29,7 @@ pub fn listing(count: usize, seed: u64, mut under_test: impl FnMut(&[u8]) -> Str
     for case in ListingCases::new(seed, count) {
         let expected = oracle::listing_program(&case.input);
         let found = under_test(&case.input);
-        assert!(
-            found == expected,
-            "the listing differs ({}), {}\ninput    {}",
-            case.label,
-            first_difference(&expected, &found),
-            hex(&case.input),
-        );
-
+        require_same("listing", case.label, &case.input, &expected, &found);
         report.see_label(case.label);
         report.see(case.label);
         let [left, right, certificate] = oracle::pieces(&case.input);
@@ -104,20 +97,5 @@ fn see_lines(report: &mut Report, input: &[u8], lines: &[Line]) {
     }
     if lines.len() == 32_768 {
         report.see(FULL_SIZE);
-    }
-}
-
-/// The first line in which two different texts differ.
-fn first_difference(expected: &str, found: &str) -> String {
-    let mut expected = expected.split_inclusive('\n');
-    let mut found = found.split_inclusive('\n');
-    let mut number = 1;
-    loop {
-        match (expected.next(), found.next()) {
-            (expected, found) if expected != found => {
-                return format!("line {number}\nexpected {expected:?}\nfound    {found:?}");
-            }
-            _ => number += 1,
-        }
     }
 }

@@ -1,12 +1,12 @@
 -- `lister::list_accepted` meets its contract: two sides are made of what the judge has read, and their lines are put. Assumes nothing.
 use Prim.Native.Nat.{ℕ, _+_, _≤_}
-use mathlib.Core.Path.{_≡_, _∙_}
+use mathlib.Core.Path.{_≡_}
 use native.Mathlib.Omega.{arith}
 use denote.Ref.{now}
 use borrow.Author.Needs.{needs}
 use Rattle.certificates.specs.CertificateModel.{AreBytes}
 use Rattle.checker.proofs.SidesReadLaws.{SidesMade}
-use Rattle.texts.proofs.TextLaws.{wrote-front, wrote-fits}
+use Rattle.texts.proofs.TextLaws.{wrote-fits}
 use Rattle.lister.proofs.AcceptedLaws.{Accepts, accepts}
 use Rattle.lister.proofs.list_accepted.Statement.{statement}
 use Rattle.lister.proofs.list_accepted.Tie as tie
@@ -123,7 +123,7 @@ returns : tie.Need-returns
 returns c =
     let made = c .before .before .before .before in
     let put = c .before .before .list-all .ensures in
-    (wrote-fits _ (inside (accepted made .short) (start-at made .pre .1)) put, wrote-front _ put ∙ accepted made .text)
+    (wrote-fits _ (inside (accepted made .short) (start-at made .pre .1)) put, rw (← (accepted made .text)) put)
 
 pub list-accepted-spec : {M : Type 1} → statement M
 list-accepted-spec =

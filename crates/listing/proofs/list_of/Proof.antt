@@ -1,5 +1,6 @@
 -- `listing::list_of` meets its contract: the three pieces are those that the definition names. Assumes nothing.
 use borrow.Author.Needs.{needs}
+use Rattle.texts.proofs.TextLaws.{wrote-front}
 use Rattle.listing.proofs.list_of.Statement.{statement}
 use Rattle.listing.proofs.list_of.Tie as tie
 
@@ -18,7 +19,7 @@ list-requires c κs = search needs
 returns : tie.Need-returns
 returns c =
     rw (← c .before .before .before .before .piece .ensures, ← c .before .before .before .piece2 .ensures, ← c .before .before .piece3 .ensures)
-    (c .list .ensures)
+    (c .list .ensures .0, wrote-front _ (c .list .ensures .1))
 
 pub list-of-spec : {M : Type 1} → statement M
 list-of-spec =
