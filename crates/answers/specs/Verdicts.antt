@@ -2,6 +2,7 @@
 use Prim.Native.Nat.{ℕ, zero, suc}
 use mathlib.Core.Bool.{Bool, cond}
 use mathlib.Core.List.{List, [], _∷_}
+use Rattle.lists.specs.Lists.{putFront}
 use Rattle.answers.specs.Numbers.{blank}
 use Rattle.answers.specs.declared.Answer.{Answer}
 
@@ -46,3 +47,8 @@ answerOf success (refusedWith answer) = answer
 -- The answer of a refusal; six zeros where it goes on.
 abbrev pub refusalOf : {A : Type 0} → Verdict A → Answer
 refusalOf = answerOf (λ x. blank)
+
+-- The output after a verdict: with the bytes at its front, or as it was where it is a refusal.
+abbrev pub outputAfter : {A : Type 0} → Verdict A → (bytes output : List ℕ) → List ℕ
+outputAfter (goOn x) bytes output = putFront bytes output
+outputAfter (refusedWith answer) bytes output = output

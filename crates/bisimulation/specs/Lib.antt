@@ -4,6 +4,7 @@ pub mod Clauses
 pub mod PathProperty
 pub mod StepPaths
 pub mod Matcher
+pub mod PathMatching
 pub mod Maker
 pub mod Runs
 pub mod Namjoshi

@@ -8,7 +8,7 @@ use native.Mathlib.Omega.{arith}
 use lib.ListN.{length}
 use Rattle.answers.specs.Numbers.{sixNumbers}
 use Rattle.answers.specs.Causes.{FirstCause, NoCause}
-use Rattle.answers.specs.Verdicts.{Verdict, goOn, refusedWith}
+use Rattle.answers.specs.Verdicts.{Verdict, goOn, refusedWith, outputAfter}
 use Rattle.answers.specs.declared.Answer.{Answer}
 use Rattle.answers.proofs.CauseLaws.{append-none, refused-iff, zero-none}
 use Rattle.answers.proofs.VerdictLaws.{decided-answer}
@@ -17,7 +17,7 @@ use Rattle.table_reader.proofs.TableCauseLaws.{good-formed, none-good}
 use Rattle.certificates.specs.Layout.{sizesOf, certificateLength}
 use Rattle.certificates.specs.CertificateModel.{AreBytes}
 use Rattle.certificate_reader.specs.CertificateCauses.{relationCauses}
-use Rattle.ranking.specs.Make.{makeVerdict, fileFor, answerAfter, outputAfter, makeAnswer, makeOutput}
+use Rattle.ranking.specs.Make.{makeVerdict, fileFor, answerAfter, makeAnswer, makeOutput}
 use Rattle.ranking.specs.MakerCauses.{makerCauses, makerNumber}
 use Rattle.ranking.proofs.MakerCauseLaws.{maker-decided, afterRelation, afterRight, afterLeft, maker-numbers}
 use Rattle.demands.specs.Demand1.{Made, MakerAnswers}

@@ -9,7 +9,7 @@ use Rattle.lists.specs.Lists.{putFront}
 use Rattle.bisimulation.specs.Systems.{System, View, WellFormed, flip}
 use Rattle.bisimulation.specs.Maker.{stutterRank, matchRank, made}
 use Rattle.answers.specs.Numbers.{sixNumbers}
-use Rattle.answers.specs.Verdicts.{Verdict, goOn, refusedWith, answerOf}
+use Rattle.answers.specs.Verdicts.{Verdict, goOn, refusedWith, answerOf, outputAfter}
 use Rattle.answers.specs.declared.Answer.{Answer}
 use Rattle.tables.specs.declared.Head.{Head}
 use Rattle.tables.specs.Table.{statesOf, labelsPart, stepsPart}
@@ -41,7 +41,7 @@ use Rattle.examination.proofs.CheckedLaws.{was-passed, was-refused}
 use Rattle.examination.proofs.MeasuredLaws.{examination-is}
 use Rattle.inputs.specs.Inputs.{InputsRead, readVerdict}
 use Rattle.inputs.proofs.InputLaws.{inputs-read}
-use Rattle.ranking.specs.Make.{fileFor, madeVerdict, outputAfter, makeAnswer, makeOutput}
+use Rattle.ranking.specs.Make.{fileFor, madeVerdict, makeAnswer, makeOutput}
 use Rattle.inputs.specs.declared.Heads.{Heads}
 use Rattle.ranking.specs.OnSides.{examinedOf, ranksMade, filledAfter}
 use Rattle.ranking.proofs.MakeAnswers.{made-by, room-verdict}

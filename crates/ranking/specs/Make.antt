@@ -6,10 +6,9 @@ use mathlib.Core.Bool.{cond}
 use mathlib.Core.List.{List}
 use lib.Dec.{ltb}
 use lib.ListN.{length}
-use Rattle.lists.specs.Lists.{putFront}
 use Rattle.bisimulation.specs.Maker.{made}
 use Rattle.answers.specs.Numbers.{sixNumbers}
-use Rattle.answers.specs.Verdicts.{Verdict, goOn, refusedWith, _andThen_, passed, answerOf}
+use Rattle.answers.specs.Verdicts.{Verdict, refusedWith, _andThen_, passed, answerOf, outputAfter}
 use Rattle.answers.specs.declared.Answer.{Answer}
 use Rattle.tables.specs.Table.{startOf}
 use Rattle.certificates.specs.Layout.{sizesOf, certificateLength}
@@ -39,11 +38,6 @@ fileFor left right relation = certificateFile (sizesOf left right) relation (mad
 -- The answer after a verdict: the refusal's, or 0, 0, L.
 abbrev pub answerAfter : List ℕ → List ℕ → Verdict (Unit {0}) → Answer
 answerAfter left right = answerOf (λ x. sixNumbers 0 0 (certificateLength (sizesOf left right)))
-
--- The output after a verdict: with the file at its front, or as it was where it is a refusal.
-abbrev pub outputAfter : Verdict (Unit {0}) → List ℕ → List ℕ → List ℕ
-outputAfter (goOn x) file output = putFront file output
-outputAfter (refusedWith answer) file output = output
 
 unfoldable pub makeAnswer : List ℕ → List ℕ → List ℕ → List ℕ → Answer
 makeAnswer left right relation output = answerAfter left right (makeVerdict left right relation output)

@@ -1,0 +1,1 @@
+// A run followed on the other model.
