@@ -16,6 +16,7 @@ use Rattle.certificates.specs.CertificateModel.{AreBytes, certifiedView, certif
 use Rattle.answers.specs.Verdicts.{Verdict, goOn, refusedWith, along, answerOf}
 use Rattle.answers.specs.declared.Answer.{Answer}
 use Rattle.relation_words.proofs.RelationLaws.{rows-ones}
+use Rattle.certified_sides.specs.Made.{SidesMade}
 use Rattle.obligations.specs.declared.Checked.{Checked}
 use Rattle.obligations.specs.declared.Checked.the-variants.{Passed, Refused}
 use Rattle.obligations.specs.declared.Run.{Run}
@@ -26,7 +27,7 @@ use Rattle.sweeps.specs.SideVerdicts.{progress, endAnswer, allVerdicts}
 use Rattle.sweeps.proofs.ProgressLaws.{end-answer}
 use Rattle.sweeps.proofs.SideVerdictLaws.{verdicts-are}
 use Rattle.checker.specs.Judge.{AllRead, pairsIn, judged, judgedBytes, readAnswer}
-use Rattle.checker.proofs.SidesReadLaws.{SidesMade, SidesRead, made-sizes, made-words, sides-read}
+use Rattle.checker.proofs.SidesReadLaws.{SidesRead, made-sizes, made-words, sides-read}
 
 -- ---- the code's enum for the verdict on the starts
 

@@ -7,7 +7,7 @@ use Rattle.bisimulation.specs.Systems.{WellFormed, flip}
 use Rattle.tables.specs.declared.Head.{Head}
 use Rattle.tables.specs.Table.{statesOf, startOf, labelsPart, stepsPart}
 use Rattle.certificates.specs.declared.Sizes.{Sizes}
-use Rattle.certificates.specs.Layout.{sizesFor, sizesOf, rowsPart}
+use Rattle.certificates.specs.Layout.{sizesOf, rowsPart}
 use Rattle.certificates.specs.CertificateModel.{AreBytes, ranksOf, certifiedView, certifiedRanks}
 use Rattle.certificates.proofs.ModelLaws.{rows-bytes}
 use Rattle.certificate_reader.proofs.CertificateLaws.{certificate-ok, sizes-are, view-formed}
@@ -16,28 +16,10 @@ use Rattle.sides.specs.Side.{startIn}
 use Rattle.sides.specs.Views.{viewIn}
 use Rattle.sides.specs.Built.{SideOf}
 use Rattle.sides.proofs.ViewLaws.{view-is, view-flipped, start-is, side-linked}
+use Rattle.certified_sides.specs.Made.{SidesMade}
 use Rattle.obligations.specs.OnSides.{leftRun, rightRun}
 use Rattle.obligations.proofs.OnSidesLaws.{Holding}
 use Rattle.checker.specs.Judge.{AllRead}
-
--- The sides are made of headers, labels, steps and words, as the code makes them.
-pub record SidesMade (left right c : List ℕ) (h k : Head) (z : Sizes) (words ours theirs : List ℕ) : Type 0 where
-  pub rows : List ℕ
-  pub columns : List ℕ
-  pub labels : List ℕ
-  pub steps : List ℕ
-  pub labels′ : List ℕ
-  pub steps′ : List ℕ
-  pub sizes-is : z ≡ sizesFor h k
-  pub rows-is : rows ≡ rowsPart c z
-  pub words-is : words ≡ rowWords rows (z .n1)
-  pub columns-is : columns ≡ columnWords words
-  pub labels-is : labels ≡ labelsPart left
-  pub steps-is : steps ≡ stepsPart left
-  pub labels-is′ : labels′ ≡ labelsPart right
-  pub steps-is′ : steps′ ≡ stepsPart right
-  pub ours-is : SideOf h labels steps words ours
-  pub theirs-is : SideOf k labels′ steps′ columns theirs
 
 -- They hold what the bytes give.
 pub record SidesRead (left right c ours theirs : List ℕ) : Type 0 where

@@ -7,18 +7,17 @@ use lib.ListN.{length}
 use borrow.Author.Tests.{eq-eqb, ne-eqb}
 use Rattle.bisimulation.specs.Systems.{View}
 use Rattle.answers.specs.declared.Answer.{Answer}
-use Rattle.tables.specs.declared.Head.{Head}
-use Rattle.table_reader.specs.TableReading.{headOf}
-use Rattle.certificates.specs.declared.Sizes.{Sizes}
 use Rattle.certificates.specs.Layout.{sizesOf}
 use Rattle.certificates.specs.CertificateModel.{AreBytes, certifiedRanks}
 use Rattle.sides.specs.Views.{viewIn}
 use Rattle.sides.proofs.ViewLaws.{states-few, steps-few}
+use Rattle.certified_sides.specs.declared.Sides.{Sides}
+use Rattle.certified_sides.specs.Made.{CertifiedSides}
 use Rattle.obligations.specs.declared.Run.{Run}
 use Rattle.obligations.specs.OnSides.{leftRun, rightRun}
-use Rattle.checker.specs.Judge.{AllRead, judgeAnswer}
-use Rattle.checker.proofs.JudgeCauseLaws.{zero-read}
-use Rattle.checker.proofs.SidesReadLaws.{SidesMade, SidesRead, made-sizes, sides-read}
+use Rattle.checker.specs.Judge.{judgeAnswer}
+use Rattle.checker.proofs.SidesReadLaws.{SidesRead}
+use Rattle.checker.proofs.AcceptedSidesLaws.{accepted-sizes, accepted-sides}
 use Rattle.texts.specs.Texts.{answerText, fitting}
 use Rattle.texts.specs.Wrote.{Wrote}
 use Rattle.texts.proofs.TextLaws.{fitting-room}
@@ -40,26 +39,22 @@ module _ (left right c : List ℕ) where
       subst (λ (text : List ℕ). Wrote text 0 end before after)
       (fitting-room (answerText answer) 0 before (omega arith) ∙ rw e (sym (rw (ne-eqb _ 0 (λ q. n (ap (λ (a : Answer). a .code) e ∙ q)))))) w
 
-  module _ (zero : judgeAnswer left right c .code ≡ 0) (bytes : AreBytes c) {h k : Head} (eh : h ≡ headOf left) (ek : k ≡ headOf right)
-      {z : Sizes} {words ours theirs : List ℕ} (made : SidesMade left right c h k z words ours theirs)
-      {own other : Run} (eo : own ≡ leftRun z) (eo′ : other ≡ rightRun z) where
-    read : AllRead left right c h k
-    read = rw (eh, ek) (zero-read left right c zero)
+  module _ (zero : judgeAnswer left right c .code ≡ 0) (bytes : AreBytes c) {s : Sides} (certified : CertifiedSides left right c s)
+      {own other : Run} (eo : own ≡ leftRun (s .sizes)) (eo′ : other ≡ rightRun (s .sizes)) where
+    sides : SidesRead left right c (s .ours) (s .theirs)
+    sides = accepted-sides left right c zero certified bytes
 
-    sides : SidesRead left right c ours theirs
-    sides = sides-read left right c read made bytes
-
-    text-of : allText ours theirs c own other ≡ flatMap lineText (listing (viewIn ours theirs) (certifiedRanks left right c))
+    text-of : allText (s .ours) (s .theirs) c own other ≡ flatMap lineText (listing (viewIn (s .ours) (s .theirs)) (certifiedRanks left right c))
     text-of =
-        rw (eo, eo′, made-sizes left right c read made)
-        (text-is ours theirs c (leftRun (sizesOf left right)) (rightRun (sizesOf left right)) (certifiedRanks left right c) (sides .holding))
+        rw (eo, eo′, accepted-sizes left right c zero certified)
+        (text-is (s .ours) (s .theirs) c (leftRun (sizesOf left right)) (rightRun (sizesOf left right)) (certifiedRanks left right c) (sides .holding))
 
-    pub accepts : Accepts left right c ours theirs own other
+    pub accepts : Accepts left right c (s .ours) (s .theirs) own other
     unfolding printed
     accepts =
         record {
           text = text-of ∙ ap (λ (v : View). flatMap lineText (listing v (certifiedRanks left right c))) (sides .here) ∙ sym (rw (eq-eqb _ 0 zero));
           short = rw text-of
-              (listing-short (viewIn ours theirs) (sides .holding .formed) (certifiedRanks left right c)
-              (states-few ours) (states-few theirs) (steps-few ours) (steps-few theirs));
+              (listing-short (viewIn (s .ours) (s .theirs)) (sides .holding .formed) (certifiedRanks left right c)
+              (states-few (s .ours)) (states-few (s .theirs)) (steps-few (s .ours)) (steps-few (s .theirs)));
         }

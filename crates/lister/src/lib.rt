@@ -1,24 +1,17 @@
 // The listing on bytes: where the judge accepts, one line for each obligation, with the clause that meets it and the state that answers; else the judge's
 // six numbers. The walk follows the judging order, and every line is put into the one output that is lent.
-use certificates::Sizes;
-use certificates::rows;
+use certified_sides::sides_of;
 use checker::judge;
 use obligations::Place;
 use obligations::Run;
 use obligations::obligation_at;
 use outcomes::Outcome;
-use relation_words::column_words;
-use relation_words::row_words;
 use sides::Side;
 use sides::first;
 use sides::next;
 use sides::related;
-use sides::side_of;
 use sides::states;
-use table_reader::head_of;
 use tables::Head;
-use tables::labels;
-use tables::steps;
 use texts::put_answer;
 use texts::put_six;
 ghost use mathlib.Core.Path.{_≡_};
@@ -182,13 +175,10 @@ fn list_accepted(left: &[u8], right: &[u8], certificate: &[u8], output: &mut [u8
     ensures text { λ r. ⌜ Wrote (printed (now (left .entry)) (now (right .entry)) (now (certificate .entry))) 0 r
         (now (output .entry)) (now (output .exit)) ⌝ }
 {
-    let head = head_of(left);
-    let head2 = head_of(right);
-    let sizes = Sizes::of(head, head2);
-    let words = row_words(rows(certificate, sizes), sizes.n1 as usize);
-    let columns = column_words(&words);
-    let ours = side_of(head, labels(left), steps(left), &words);
-    let theirs = side_of(head2, labels(right), steps(right), &columns);
+    let sides = sides_of(left, right, certificate);
+    let ours = sides.ours;
+    let theirs = sides.theirs;
+    let sizes = sides.sizes;
     list_all(
         &ours,
         &theirs,

@@ -1,0 +1,2 @@
+-- Of what two sides are made.
+pub mod Made
