@@ -1,6 +1,6 @@
 -- Laws of the writer: the parts of an output that it lends, one after the other, what its grids hold, and what its output holds. Assumes nothing.
 use Prim.Native.Nat.{ℕ, _+_, _*_, _-_, _≤_, _<_}
-use mathlib.Core.Path.{_≡_, sym, ap, _∙_}
+use mathlib.Core.Path.{_≡_, ap, _∙_}
 use mathlib.Core.List.{List, _++_}
 use native.Mathlib.Omega.{arith}
 use native.Mathlib.Decide.{decLt, ℕ-discrete}
@@ -40,10 +40,6 @@ module _ {a e k : ℕ} {p d l : List ℕ} (w : Front p d l a) (s : Span a e k d)
   -- it comes back as r: the front is longer by r
   pub span-front : {ys : List ℕ} (r : List ℕ) → ys ≡ r → length r ≡ k → Front (p ++ r) d (putMid a (e - a) l ys) e
   span-front r q h = front-part e r w (omega arith) span-end q (omega arith)
-
--- all that is written is put at the front
-pub front-put : {p d l : List ℕ} {a : ℕ} → Front p d l a → l ≡ putFront p d
-front-put {p} {d} {l} {a} w = w .eq ∙ ap (λ (k : ℕ). p ++ drop k d) (sym (w .front)) ∙ sym (put-front-fits p d (omega arith))
 
 -- ---- the parts of a certificate
 

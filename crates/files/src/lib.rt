@@ -1,6 +1,7 @@
 // The file of a certificate, written from given ranks: the header, the rows, and the four runs of ranks.
 use certificates::Sizes;
 use lists::byte;
+use lists::put_front;
 use tables::Head;
 ghost use mathlib.Core.Path.{_≡_};
 ghost use Prim.Native.Nat.{_*_, _≤_, _<_};
@@ -55,18 +56,6 @@ fn put_header(sizes: Sizes, header: &mut [u8])
     header[10] = (sizes.m2 % 256) as u8;
 }
 
-// The rows, over a part of their length.
-fn put_rows(relation: &[u8], rows: &mut [u8])
-    requires { ⌜ length (now rows) ≡ length (now relation) ⌝ }
-    ensures { λ _. ⌜ now (rows .exit) ≡ now (relation .entry) ⌝ }
-{
-    let mut i: usize = 0;
-    while i < rows.len() {
-        rows[i] = relation[i];
-        i += 1;
-    }
-}
-
 // The header, the rows and the four runs, each a part of the output that begins where the one before ends.
 fn write_parts(
     relation: &[u8],
@@ -93,7 +82,7 @@ fn write_parts(
     let cr_at = runs.cr;
     let end = sizes.length();
     put_header(sizes, &mut output[0..Sizes::HEADER]);
-    put_rows(relation, &mut output[Sizes::HEADER..al_at]);
+    put_front(relation, &mut output[Sizes::HEADER..al_at]);
     put_run(al, n1, n2, &mut output[al_at..ar_at]);
     put_run(ar, n2, n1, &mut output[ar_at..cl_at]);
     put_run(cl, m1, n2, &mut output[cl_at..cr_at]);

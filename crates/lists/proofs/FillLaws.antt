@@ -1,6 +1,6 @@
 -- Laws of lists filled by index, and of loops that fill a list: by index (`Filled`), part after part (`Front`) and row after row (`Rows`). Each loop has a
 -- law for its start, for one turn and for its end. Assumes nothing.
-use mathlib.Core.Path.{_≡_, refl, sym, ap, _∙_, subst}
+use mathlib.Core.Path.{_≡_, refl, sym, ap, ap₂, _∙_, subst}
 use mathlib.Core.List.{List, [], _∷_, _++_, append-assoc, append-nil}
 use mathlib.Core.Logic.{⊎-elim}
 use Prim.Native.Nat.{ℕ, zero, suc, _+_, _*_, _-_, _/_, _%_, _<_, _≤_, zero-le}
@@ -150,6 +150,20 @@ put-front-fits p d h = simp (le-leb (length p) (length d) h)
 pub put-front-short : (p d : List ℕ) → length d < length p → putFront p d ≡ d
 unfolding putFront
 put-front-short p d h = simp (lt-leb (length p) (length d) h)
+
+-- all of the list is taken
+pub put-front-whole : (p d : List ℕ) → length d ≡ length p → putFront p d ≡ p
+put-front-whole p d e =
+    let h : length d ≤ length p = omega arith in
+    put-front-fits p d (omega arith) ∙ ap (λ (x : List ℕ). p ++ x) (drop-of-length-le d h) ∙ append-nil p
+
+-- a front that is written, part after part or by index, is put
+pub front-put : {p d l : List ℕ} {a : ℕ} → Front p d l a → l ≡ putFront p d
+front-put {p} {d} {l} {a} w = w .eq ∙ ap (λ (k : ℕ). p ++ drop k d) (sym (w .front)) ∙ sym (put-front-fits p d (omega arith))
+
+pub filled-put : {n : ℕ} (p : List ℕ) {d l : List ℕ} → Filled n (λ (k : ℕ). getD p k 0) d l → n ≡ length p → l ≡ putFront p d
+filled-put {n} p {d} {l} w e =
+    w .eq ∙ ap₂ _++_ (tabulate-of p n e) (ap (λ (k : ℕ). drop k d) e) ∙ sym (put-front-fits p d (omega (arith, w .le)))
 
 -- ---- rows of m
 

@@ -1,7 +1,7 @@
-// Total reads of bytes, of numbers in bytes and of parts, for every slice and every index.
+// Total reads of bytes, of numbers in bytes and of parts, for every slice and every index; and a front written over a slice.
 ghost use mathlib.Core.Path.{_≡_};
 ghost use Prim.Native.Nat.{_+_, _^_, _≤_, _<_};
-ghost use Rattle.lists.specs.Lists.{part};
+ghost use Rattle.lists.specs.Lists.{part, putFront};
 ghost use Rattle.lists.specs.Numbers.{byteAt, bigEndian};
 
 // A byte as a usize.
@@ -86,4 +86,18 @@ pub fn part_of(s: &[u8], a: usize, e: usize) -> &[u8]
         return &s[a..];
     }
     &s[a..e]
+}
+
+// Writes the front over the first bytes of the output; an output that is too short stays as it is.
+pub fn put_front(front: &[u8], output: &mut [u8])
+    ensures { λ _. ⌜ now (output .exit) ≡ putFront (now (front .entry)) (now (output .entry)) ⌝ }
+{
+    if output.len() < front.len() {
+        return;
+    }
+    let mut i: usize = 0;
+    while i < front.len() {
+        output[i] = front[i];
+        i += 1;
+    }
 }

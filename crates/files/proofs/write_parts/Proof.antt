@@ -6,14 +6,14 @@ use native.Mathlib.Omega.{arith}
 use borrow.Rule.Slice.PartMut.{putMid}
 use borrow.Author.Needs.{needs}
 use Rattle.lists.specs.Lists.{grid}
-use Rattle.lists.proofs.FillLaws.{Front, front-none, length-grid}
+use Rattle.lists.proofs.FillLaws.{Front, front-none, put-front-whole, front-put, length-grid}
 use Rattle.certificates.specs.declared.Runs.{Runs}
 use Rattle.certificates.specs.declared.Sizes.{Sizes}
 use Rattle.certificates.specs.Layout.{certificateHeaderLength}
 use Rattle.files.specs.File.{certificateHeader, certificateFile}
 use Rattle.files.specs.Writer.{cellIn}
 use Rattle.files.proofs.FileLaws.{FitsHeader, header-length}
-use Rattle.files.proofs.WriterLaws.{Spans, spans, span-order, span-end, span-length, span-front, front-put}
+use Rattle.files.proofs.WriterLaws.{Spans, spans, span-order, span-end, span-length, span-front}
 use Rattle.files.proofs.write_parts.Statement.{statement}
 use Rattle.files.proofs.write_parts.Tie as tie
 
@@ -90,13 +90,15 @@ at-rows c = at-header (c .before .before .before .before)
 abbrev to-rows : tie.After-length → List ℕ
 to-rows c = to-header c ++ start c .args .relation .now
 
-abbrev output-rows : tie.After-slice-known3 → List ℕ
-output-rows c = lent rows al (at-rows c) (output-header (c .before .before .before .before)) (c .before .before .put-rows .last .1 .0)
+abbrev output-front : tie.After-slice-known3 → List ℕ
+output-front c = lent rows al (at-rows c) (output-header (c .before .before .before .before)) (c .before .before .put-front .last .1 .0)
 
-front-rows : (c : tie.After-slice-known3) → FrontTo to-rows al (at-rows c) (output-rows c)
+front-rows : (c : tie.After-slice-known3) → FrontTo to-rows al (at-rows c) (output-front c)
 front-rows c =
-    span-front (front-header (c .before .before .before .before)) (known (at-rows c) .rows-run) _ (c .before .before .put-rows .ensures)
-    (start (at-rows c) .pre .0)
+    let header = front-header (c .before .before .before .before) in
+    let span = known (at-rows c) .rows-run in
+    let full = start (at-rows c) .pre .0 in
+    span-front header span _ (c .before .before .put-front .ensures ∙ put-front-whole _ _ (span-length header span ∙ sym full)) full
 
 abbrev at-al : tie.After-slice-known4 → tie.After-length
 at-al c = at-rows (c .before .before .before .before)
@@ -105,7 +107,7 @@ abbrev to-al : tie.After-length → List ℕ
 to-al c = to-rows c ++ grid (sizes c .n1) (sizes c .n2) (cellIn (start c .args .al .now))
 
 abbrev output-al : tie.After-slice-known4 → List ℕ
-output-al c = lent al ar (at-al c) (output-rows (c .before .before .before .before)) (c .before .before .put-run .last .1 .1 .1 .0)
+output-al c = lent al ar (at-al c) (output-front (c .before .before .before .before)) (c .before .before .put-run .last .1 .1 .1 .0)
 
 front-al : (c : tie.After-slice-known4) → FrontTo to-al ar (at-al c) (output-al c)
 front-al c = span-front (front-rows (c .before .before .before .before)) (known (at-al c) .al-run) _ (c .before .before .put-run .ensures) (length-grid _ _ _)
@@ -178,19 +180,17 @@ part-put-header-end c = span-end (front-none _) (known c .header)
 put-header-requires : tie.Need-put-header-requires
 put-header-requires c κs = span-length (front-none _) (known (c .before) .header)
 
-sub-put-rows : tie.Need-sub-put-rows
-sub-put-rows c = span-order (known (at-header c) .rows-run)
+sub-put-front : tie.Need-sub-put-front
+sub-put-front c = span-order (known (at-header c) .rows-run)
 
-part-put-rows-start : tie.Need-part-put-rows-start
-part-put-rows-start c = span-order (known (at-header c) .rows-run)
+part-put-front-start : tie.Need-part-put-front-start
+part-put-front-start c = span-order (known (at-header c) .rows-run)
 
-part-put-rows-end : tie.Need-part-put-rows-end
-part-put-rows-end c = span-end (front-header c) (known (at-header c) .rows-run)
+part-put-front-end : tie.Need-part-put-front-end
+part-put-front-end c = span-end (front-header c) (known (at-header c) .rows-run)
 
-put-rows-requires : tie.Need-put-rows-requires
-put-rows-requires c κs =
-    let at = at-header (c .before) in
-    span-length (front-header (c .before)) (known at .rows-run) ∙ sym (start at .pre .0)
+put-front-requires : tie.Need-put-front-requires
+put-front-requires c κs = search needs
 
 sub-put-run : tie.Need-sub-put-run
 sub-put-run c = span-order (known (at-rows c) .al-run)
@@ -269,10 +269,10 @@ write-parts-spec =
     part-put-header-start
     part-put-header-end
     put-header-requires
-    sub-put-rows
-    part-put-rows-start
-    part-put-rows-end
-    put-rows-requires
+    sub-put-front
+    part-put-front-start
+    part-put-front-end
+    put-front-requires
     sub-put-run
     part-put-run-start
     part-put-run-end
