@@ -1,13 +1,13 @@
 -- Laws of lists joined over the indices below a bound: what holds of every element, and a walk that goes from one index with something to the next meets
 -- the whole list in its order. Assumes nothing.
-use Prim.Native.Nat.{ℕ, zero, suc, _+_, _*_, _≤_, _<_, suc-le-suc, zero-le}
+use Prim.Native.Nat.{ℕ, zero, suc, _*_, _≤_, _<_, suc-le-suc, zero-le}
 use mathlib.Core.Path.{_≡_, refl, ap, ap₂, _∙_}
 use mathlib.Core.Bool.{Bool, true, false, cond}
 use mathlib.Core.List.{List, [], _∷_, _++_, map, flatMap}
 use native.Mathlib.Nat.{not-suc-le-zero, le-of-suc-le-suc}
 use native.Mathlib.Omega.{arith}
 use lib.Dec.{T}
-use lib.ListN.{length, length-append}
+use lib.ListN.{length, getD, length-append}
 use Rattle.lists.specs.Lists.{All, joinBelow}
 
 -- ---- what holds of every element
@@ -58,6 +58,10 @@ module _ {ℓ κ} {A : Type ℓ} {B : Type κ} (P : B → Type 0) where
   unfolding flatMap
   flat-all f [] a = tt
   flat-all f (x ∷ xs) a = let q = append-all P (f x) _ a in (q .0, flat-all f xs (q .1))
+
+pub all-imply {ℓ} : {A : Type ℓ} (P Q : A → Type 0) → ((x : A) → P x → Q x) → (xs : List A) → All P xs → All Q xs
+all-imply P Q h [] a = tt
+all-imply P Q h (x ∷ xs) a = (h x (a .0), all-imply P Q h xs (a .1))
 
 pub all-each {ℓ} : {A : Type ℓ} (P : A → Type 0) → ((x : A) → P x) → (xs : List A) → All P xs
 all-each P h [] = tt
@@ -119,6 +123,12 @@ module _ {A : Type 0} where
   from-none zero n f h = join-none n f (λ i l. h i zero-le l)
   from-none (suc a) zero f h = refl
   from-none (suc a) (suc n) f h = from-none a n _ (λ i b l. h (suc i) (suc-le-suc b) (suc-le-suc l))
+
+  -- a list is that of its elements
+  pub join-of : (d : A) (xs : List A) → joinBelow (length xs) (λ i. getD xs i d ∷ []) ≡ xs
+  unfolding joinBelow
+  join-of d [] = refl
+  join-of d (x ∷ xs) = ap (λ (l : List A). x ∷ l) (join-of d xs)
 
   -- as long as n lists of at most c
   pub join-length : (n c : ℕ) (f : ℕ → List A) → ((i : ℕ) → i < n → length (f i) ≤ c) → length (joinBelow n f) ≤ n * c

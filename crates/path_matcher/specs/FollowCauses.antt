@@ -2,14 +2,15 @@
 use Prim.Native.Nat.{ℕ, _+_, _*_, _≤_, _<_}
 use mathlib.Core.Path.{_≡_}
 use mathlib.Core.Logic.{_⊎_}
+use mathlib.Core.Bool.{Bool, _&&_, _||_}
 use mathlib.Core.List.{List, [], _∷_, _++_}
-use lib.Dec.{T}
+use lib.Dec.{T, eqb}
 use lib.ListN.{length}
 use Rattle.lists.specs.Numbers.{byteAt}
 use Rattle.bisimulation.specs.Systems.{System, Step, View, Ranks}
 use Rattle.answers.specs.Numbers.{sixNumbers}
 use Rattle.answers.specs.Causes.{Cause, _gives_}
-use Rattle.checker.specs.JudgeCauses.{judgeCauses}
+use Rattle.checker.specs.JudgeCauses.{judgeCauses, judgeNumber}
 use Rattle.path_matcher.specs.Following.{matchedAlong, followedView, followedRanks}
 
 -- 25: the side is not 0 or 1; or the path is empty; or it is over 256 states; or it holds a state out of range; or two neighbours that are no step.
@@ -41,3 +42,7 @@ abbrev pub followCauses : (left right c : List ℕ) → (side start : ℕ) → (
 followCauses left right c side start path states blocks =
     judgeCauses left right c
     ++ matchCauses (followedView left right c side) (followedRanks left right c side) side start path states blocks
+
+-- Their numbers and files: the judge's, 25 and 26 with the file 4, and 27 with the file 3.
+abbrev pub followNumber : (code file : ℕ) → Bool
+followNumber code file = judgeNumber code file || (((eqb code 25 || eqb code 26) && eqb file 4) || (eqb code 27 && eqb file 3))

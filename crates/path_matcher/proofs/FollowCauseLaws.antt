@@ -1,0 +1,93 @@
+-- The follower's verdict is decided by its causes: it refuses with the numbers of the first that applies, and goes on where none does, with the states to
+-- write. Each of 25, 26 and 27 is one test made of the tests of its parts. Assumes nothing.
+use Prim.Native.Nat.{ℕ, _+_, _*_, _-_}
+use mathlib.Core.Path.{_≡_, refl}
+use mathlib.Core.Logic.{inl}
+use mathlib.Core.Bool.{Bool, true, false, not}
+use mathlib.Core.List.{List, [], _∷_}
+use native.Mathlib.Omega.{arith}
+use lib.ListN.{length}
+use Rattle.lists.specs.Numbers.{byteAt}
+use Rattle.lists.proofs.BoolLaws.{or-l}
+use Rattle.lists.proofs.JoinLaws.{all-imply}
+use Rattle.bisimulation.specs.Systems.{System, Step, View, Ranks}
+use Rattle.answers.specs.Causes.{_gives_, Numbered}
+use Rattle.answers.specs.Verdicts.{passIf}
+use Rattle.answers.specs.declared.Answer.{Answer}
+use Rattle.answers.proofs.CauseLaws.{numbered-append}
+use Rattle.answers.proofs.DecideLaws.{Decides, decides-as, test-decides, ltb-decides, leb-decides, eqb-decides, not-decides, and-decides, or-decides, any-decides}
+use Rattle.answers.proofs.VerdictLaws.{Decided, Anything, decided-none, decided-then}
+use Rattle.checker.specs.Judge.{judgeVerdict}
+use Rattle.checker.specs.JudgeCauses.{judgeCauses, judgeNumber}
+use Rattle.checker.proofs.JudgeCauseLaws.{judge-decided, judge-numbers}
+use Rattle.path_matcher.specs.Following.{
+  matchedAlong,
+  hasStep,
+  wrongPath,
+  wrongStart,
+  noRoom,
+  matchVerdict,
+  followedView,
+  followedRanks,
+  followVerdict,
+  matchedStates,
+}
+use Rattle.path_matcher.specs.FollowCauses.{WrongPath, WrongStart, NoRoom, matchCauses, followCauses, followNumber}
+
+-- ---- the three tests
+
+has-step-decides : (S : System) (s u : ℕ) → Decides (hasStep S s u) (Step S s u)
+unfolding hasStep
+has-step-decides S s u =
+    decides-as (any-decides (S .steps) (λ j. and-decides (eqb-decides (S .from j) s) (eqb-decides (S .to j) u)))
+    (λ p. (p .0, p .1, p .2 .0, p .2 .1)) (λ p. (p .0, p .1, (p .2, p .3)))
+
+path-decides : (side : ℕ) (S : System) (path : List ℕ) → Decides (wrongPath side S path) (WrongPath side S path)
+unfolding wrongPath
+path-decides side S path =
+    or-decides (and-decides (not-decides (eqb-decides side 0)) (not-decides (eqb-decides side 1)))
+    (or-decides (eqb-decides (length path) 0)
+    (or-decides (ltb-decides 256 (length path))
+    (or-decides (any-decides (length path) (λ i. leb-decides (S .states) (byteAt path i)))
+    (decides-as (any-decides (length path - 1) (λ i. not-decides (has-step-decides S (byteAt path i) (byteAt path (i + 1)))))
+    (λ p. (p .0, omega (arith, p .1), p .2)) (λ p. (p .0, omega (arith, p .1), p .2))))))
+
+start-decides : (v : View) (path : List ℕ) (start : ℕ) → Decides (wrongStart v path start) (WrongStart v path start)
+unfolding wrongStart
+start-decides v path start = or-decides (not-decides (test-decides (v .related (byteAt path 0) start))) (leb-decides (v .other .states) start)
+
+room-decides : (written given : ℕ) (states blocks : List ℕ) → Decides (noRoom written given states blocks) (NoRoom written given states blocks)
+unfolding noRoom
+room-decides written given states blocks = or-decides (ltb-decides (length states) (3 * written)) (ltb-decides (length blocks) (2 * given))
+
+-- ---- the verdict
+
+-- one test
+test-decided : (test : Bool) {P : Type 0} {a : Answer} → Decides test P → Decided Anything (P gives a ∷ []) (passIf (not test) a)
+test-decided true d = record { by = inl (d .sound tt, refl) }
+test-decided false d = record { by = (tt, (d .complete, tt)) }
+
+match-decided : (v : View) (r : Ranks) (side start : ℕ) (path states blocks : List ℕ)
+    → Decided (λ n. n ≡ length (matchedAlong v r path start)) (matchCauses v r side start path states blocks)
+    (matchVerdict v r side start path states blocks)
+unfolding matchVerdict
+match-decided v r side start path states blocks =
+    decided-then (passIf (not (wrongPath side (v .own) path)) _) (test-decided (wrongPath side (v .own) path) (path-decides side (v .own) path)) λ x g n.
+    decided-then (passIf (not (wrongStart v path start)) _) (test-decided (wrongStart v path start) (start-decides v path start)) λ y h m.
+    decided-then (passIf (not (noRoom (length (matchedAlong v r path start)) (length path) states blocks)) _)
+    (test-decided (noRoom (length (matchedAlong v r path start)) (length path) states blocks)
+    (room-decides (length (matchedAlong v r path start)) (length path) states blocks)) λ z k o. decided-none refl
+
+module _ (left right c : List ℕ) (side start : ℕ) (path states blocks : List ℕ) where
+  pub follow-decided : Decided (λ n. n ≡ length (matchedStates left right c side start path states blocks))
+      (followCauses left right c side start path states blocks) (followVerdict left right c side start path states blocks)
+  unfolding followVerdict
+  follow-decided =
+      decided-then (judgeVerdict left right c) (judge-decided left right c) λ x g n.
+      match-decided (followedView left right c side) (followedRanks left right c side) side start path states blocks
+
+  -- the judge's numbers; 25 and 26 with the file 4, and 27 with the file 3
+  pub follow-numbers : Numbered followNumber (followCauses left right c side start path states blocks)
+  follow-numbers =
+      numbered-append followNumber (judgeCauses left right c) _
+      (all-imply _ _ (λ x. or-l (judgeNumber (x .numbers .code) (x .numbers .file)) _) (judgeCauses left right c) (judge-numbers left right c)) (tt, (tt, (tt, tt)))

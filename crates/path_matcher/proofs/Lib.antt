@@ -1,0 +1,2 @@
+-- Laws of a run followed on the other model.
+pub mod FollowCauseLaws
