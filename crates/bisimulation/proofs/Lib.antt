@@ -8,6 +8,7 @@ pub mod Complete
 pub mod Made
 pub mod RunLaws
 pub mod PlainPaths
+pub mod PathMatchingLaws
 pub mod Equivalences
 pub mod Pigeonhole
 pub mod Sides

@@ -6,26 +6,23 @@ use Prim.Native.Nat.{ℕ, _≤_, _<_}
 use mathlib.Core.Path.{_≡_, refl, ap, subst, _∙_}
 use mathlib.Core.HLevel.{Σ-prop-path}
 use mathlib.Core.Logic.{_↔_, inl, inr}
-use mathlib.Core.Bool.{Bool, _&&_}
 use native.Mathlib.Bridge.{le-prop}
 use native.Mathlib.Decide.{ℕ-discrete}
-use native.Mathlib.Omega.{arith}
 use lib.Dec.{T, eqb, eqb→eq, eqb-refl}
-use Rattle.lists.proofs.BelowLaws.{first-le, first-at}
-use Rattle.lists.proofs.BoolLaws.{and-l, and-r, and-i, eq→eqb, cond-true, cond-false}
+use Rattle.lists.proofs.BoolLaws.{and-i, cond-true, cond-false}
 use Rattle.bisimulation.specs.Clauses.{Meets2a, Meets2b, Meets2c, Meets, MeetsLiterally, EveryObligation, Certified}
 use Rattle.bisimulation.specs.Judge.{accepts}
 use Rattle.bisimulation.specs.Maker.{made, succeeds}
 use Rattle.bisimulation.specs.Namjoshi.{NoDescent, State, joint, Bisimulation, BisimulationWithoutConjunct, InitialStatesRelated, SomeRank}
 use Rattle.bisimulation.specs.PathProperty.{PathProperty}
-use Rattle.bisimulation.specs.Systems.{System, Step, NoTwice, View, flip, Ranks, swap, Bytes, WellFormed, Plain, InitialRelated, LabelsEqual}
+use Rattle.bisimulation.specs.Systems.{NoTwice, View, flip, Ranks, swap, Bytes, WellFormed, Plain, InitialRelated, LabelsEqual}
 use Rattle.bisimulation.specs.Triples.{stepOf, ownRank, tripleRank, raised}
 use Rattle.bisimulation.proofs.ClauseLaws.{flip-formed, initial-i, labels-i}
 use Rattle.bisimulation.proofs.Equivalences.{succeeds-iff-bytes, succeeds-iff-property}
 use Rattle.bisimulation.proofs.Literal.{accepted-literal, literal-accepted}
 use Rattle.bisimulation.proofs.Made.{made-accepted}
 use Rattle.bisimulation.proofs.Pigeonhole.{no-descent}
-use Rattle.bisimulation.proofs.PlainPaths.{flip-plain}
+use Rattle.bisimulation.proofs.PlainPaths.{step-of, flip-plain}
 use Rattle.bisimulation.proofs.Sides.{
   clauses-map,
   Side2a,
@@ -41,14 +38,6 @@ use Rattle.bisimulation.proofs.Sides.{
   side-none-unmatched,
   side-none-endless,
 }
-
-step-of : (X : System) (s u : ℕ) → Step X s u → (stepOf X s u < X .steps) × (X .from (stepOf X s u) ≡ s) × (X .to (stepOf X s u) ≡ u)
-unfolding stepOf
-step-of X s u (j, l, e, f) =
-    let g : ℕ → Bool = λ i. eqb (X .from i) s && eqb (X .to i) u in
-    let b : T (g j) = and-i (eqb (X .from j) s) (eqb (X .to j) u) (eq→eqb _ _ e) (eq→eqb _ _ f) in
-    let c = first-at (X .steps) g j l b in
-    (omega (arith, first-le (X .steps) g j l b), eqb→eq _ _ (search and-l), eqb→eq _ _ (search and-r))
 
 module _ (v : View) (r : Ranks) where
   rank-same : (s t : ℕ) → ownRank v r s s t ≡ r .stutter s t

@@ -3,21 +3,38 @@
 use Prim.Native.Nat.{ℕ, _<_}
 use mathlib.Core.Path.{_≡_, refl, subst, sym, ap, ap₂, _∙_}
 use mathlib.Core.Logic.{_↔_, _≢_}
+use mathlib.Core.Bool.{Bool, _&&_}
 use mathlib.Core.List.{List, [], _∷_, _++_, map, tail, flatten, cons≢nil, nil≢cons, head-eq-of-cons-eq, tail-eq-of-cons-eq}
-use lib.Dec.{T}
-use Rattle.lists.specs.Lists.{All}
-use Rattle.bisimulation.specs.PathProperty.{IsPath, lastState, SameBlocks, PathsMatched, PathProperty}
+use native.Mathlib.Omega.{arith}
+use lib.Dec.{T, eqb, eqb→eq}
+use Rattle.lists.proofs.BelowLaws.{first-le, first-at}
+use Rattle.lists.proofs.BoolLaws.{and-l, and-r, and-i, eq→eqb}
+use Rattle.lists.proofs.JoinLaws.{all-each, map-append}
+use Rattle.bisimulation.specs.PathMatching.{stepsAlong}
+use Rattle.bisimulation.specs.PathProperty.{IsPath, lastState, SameBlocks, MatchingPath, PathsMatched, PathProperty}
 use Rattle.bisimulation.specs.StepPaths.{StepPath, endState, Cut, otherSteps, stateBlocks, SilentInside, Fits, StepPathsMatched, StepPathProperty}
-use Rattle.bisimulation.specs.Systems.{System, Terminal, View, flip, WellFormed, Plain}
+use Rattle.bisimulation.specs.Systems.{System, Step, Terminal, View, flip, WellFormed, Plain}
+use Rattle.bisimulation.specs.Triples.{stepOf}
 use Rattle.bisimulation.proofs.ClauseLaws.{flip-formed}
+
+-- the step from s to u is one
+pub step-of : (S : System) (s u : ℕ) → Step S s u → (stepOf S s u < S .steps) × (S .from (stepOf S s u) ≡ s) × (S .to (stepOf S s u) ≡ u)
+unfolding stepOf
+step-of S s u (j, l, e, f) =
+    let g : ℕ → Bool = λ i. eqb (S .from i) s && eqb (S .to i) u in
+    let b : T (g j) = and-i (eqb (S .from j) s) (eqb (S .to j) u) (eq→eqb _ _ e) (eq→eqb _ _ f) in
+    let c = first-at (S .steps) g j l b in
+    (omega (arith, first-le (S .steps) g j l b), eqb→eq _ _ (search and-l), eqb→eq _ _ (search and-r))
 
 module _ (S : System) where
   -- a path's steps
-  pub path-steps : (p : List ℕ) (s : ℕ) → IsPath S (s ∷ p) → (J : List ℕ) × StepPath S s J × (map (S .to) J ≡ p)
-  path-steps [] s h = ([], tt, refl)
+  pub path-steps : (p : List ℕ) (s : ℕ) → IsPath S (s ∷ p) → StepPath S s (stepsAlong S s p) × (map (S .to) (stepsAlong S s p) ≡ p)
+  unfolding stepsAlong
+  path-steps [] s h = (tt, refl)
   path-steps (u ∷ p) s h =
       let i = path-steps p u (h .2) in
-      (h .1 .0 ∷ i .0, (h .1 .1, h .1 .2, rw (h .1 .3) (i .1)), ap₂ _∷_ (h .1 .3) (i .2))
+      let j = step-of S s u (h .1) in
+      ((j .0, j .1, rw (j .2) (i .0)), ap₂ _∷_ (j .2) (i .1))
 
   pub steps-path : ((j : ℕ) → j < S .steps → S .to j < S .states) → (J : List ℕ) (s : ℕ) → s < S .states → StepPath S s J → IsPath S (s ∷ map (S .to) J)
   steps-path w [] s l p = l
@@ -28,18 +45,14 @@ module _ (S : System) where
   last-end (j ∷ J) s = last-end J (S .to j)
 
 module _ (f : ℕ → ℕ) where
-  map-append : (J L : List ℕ) → map f (J ++ L) ≡ map f J ++ map f L
-  map-append [] L = refl
-  map-append (j ∷ J) L = ap (λ l. f j ∷ l) (map-append J L)
-
   flatten-map : (Js : List (List ℕ)) → map f (flatten Js) ≡ flatten (map (map f) Js)
   unfolding flatten
   flatten-map [] = refl
-  flatten-map (X ∷ Js) = map-append X (flatten Js) ∙ ap (λ l. map f X ++ l) (flatten-map Js)
+  flatten-map (X ∷ Js) = map-append f X (flatten Js) ∙ ap (λ l. map f X ++ l) (flatten-map Js)
 
   pub map-flatten : (J : List ℕ) (Js : List (List ℕ)) → map f (J ++ flatten Js) ≡ map f J ++ flatten (map (map f) Js)
   unfolding flatten
-  map-flatten J Js = map-append J (flatten Js) ∙ ap (λ l. map f J ++ l) (flatten-map Js)
+  map-flatten J Js = map-append f J (flatten Js) ∙ ap (λ l. map f J ++ l) (flatten-map Js)
 
   -- a cut of the mapped list is a cut of the list
   split-map : (b L J : List ℕ) → b ++ L ≡ map f J → (J₀ J₁ : List ℕ) × (J₀ ++ J₁ ≡ J) × (map f J₀ ≡ b) × (map f J₁ ≡ L)
@@ -69,34 +82,32 @@ module _ (f : ℕ → ℕ) where
       (h .0, i .0, ap (λ l. h .0 ++ l) (i .1) ∙ h .2, ap₂ _∷_ (sym (head-eq-of-cons-eq e)) (h .3), i .2)
 
 module _ (v : View) (w : WellFormed v) where
-  open View v using (own, other)
+  open View v using (own, other, related)
 
   -- the states of a cut that names its steps are a cut of the states
-  pub forget-steps : StepPathsMatched v → PathsMatched v
+  unfoldable pub cut-matching : {s t : ℕ} {x : Cut} → T (related s t) → (p : List ℕ) → IsPath own (s ∷ p) → Fits v s (stepsAlong own s p) t x
+      → MatchingPath v s p t
   unfolding flatten
-  forget-steps F s t h p a =
+  cut-matching {s} {t} {x} h p a f =
       let i = path-steps own p s a in
-      let r = F s t h (i .0) (i .1) in
-      let x = r .0 in
-      let f = r .1 in
       record {
         q = map (other .to) (otherSteps x);
         path = steps-path other (w .there .to<) (otherSteps x) t (w .there .related< t s h) (f .path);
         blocks = stateBlocks own s (x .first) (x .later);
         blocks′ = stateBlocks other t (x .first′) (x .later′);
-        cut = ap (λ l. s ∷ l) (sym (map-flatten (own .to) (x .first) (x .later)) ∙ ap (map (own .to)) (f .cut) ∙ i .2);
+        cut = ap (λ l. s ∷ l) (sym (map-flatten (own .to) (x .first) (x .later)) ∙ ap (map (own .to)) (f .cut) ∙ i .1);
         cut′ = ap (λ l. t ∷ l) (sym (map-flatten (other .to) (x .first′) (x .later′)));
         same = f .same;
-        terminal = λ d. rw (last-end other (otherSteps x) t) (f .terminal (subst (Terminal own) (ap (lastState s) (sym (i .2)) ∙ last-end own (i .0) s) d));
+        terminal = λ d.
+            rw (last-end other (otherSteps x) t) (f .terminal (subst (Terminal own) (ap (lastState s) (sym (i .1)) ∙ last-end own (stepsAlong own s p) s) d));
       }
 
-  module _ (plain : Plain v) where
-    all-pass : {A : Type 0} (P : A → Type 0) → ((a : A) → P a) → (l : List A) → All P l
-    all-pass P f [] = tt
-    all-pass P f (a ∷ l) = (f a, all-pass P f l)
+  pub forget-steps : StepPathsMatched v → PathsMatched v
+  forget-steps F s t h p a = cut-matching h p a (F s t h (stepsAlong own s p) (path-steps own p s a .0) .1)
 
+  module _ (plain : Plain v) where
     silent-inside : (S : System) → ((j : ℕ) → T (S .silent j)) → (first : List ℕ) (later : List (List ℕ)) → SilentInside S first later
-    silent-inside S f first later = record { in-first = all-pass _ f first; in-later = all-pass _ (λ b. all-pass _ f (tail b)) later }
+    silent-inside S f first later = record { in-first = all-each _ f first; in-later = all-each _ (λ b. all-each _ f (tail b)) later }
 
     -- the steps of a cut of the states, where no key is asked of them
     name-steps : (s : ℕ) (J : List ℕ) (t : ℕ) (K : List ℕ) (bs cs : List (List ℕ)) → flatten bs ≡ s ∷ map (own .to) J
@@ -124,8 +135,9 @@ module _ (v : View) (w : WellFormed v) where
     find-steps F s t h J p =
         let r = F s t h (map (own .to) J) (steps-path own (w .here .to<) J s (w .here .related< s t h) p) in
         let i = path-steps other (r .q) t (r .path) in
-        name-steps s J t (i .0) (r .blocks) (r .blocks′) (r .cut) (rw (i .2) (r .cut′)) (r .same) (i .1)
-        (λ d. subst (Terminal other) (ap (lastState t) (sym (i .2)) ∙ last-end other (i .0) t) (r .terminal (rw (last-end own J s) d)))
+        let K = stepsAlong other t (r .q) in
+        name-steps s J t K (r .blocks) (r .blocks′) (r .cut) (rw (i .1) (r .cut′)) (r .same) (i .0)
+        (λ d. subst (Terminal other) (ap (lastState t) (sym (i .1)) ∙ last-end other K t) (r .terminal (rw (last-end own J s) d)))
 
 pub flip-plain : (v : View) → Plain v → Plain (flip v)
 flip-plain v k = record { silent = k .silent′; silent′ = k .silent; serves = λ j i. k .serves i j }
