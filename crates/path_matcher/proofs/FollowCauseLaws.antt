@@ -36,13 +36,13 @@ use Rattle.path_matcher.specs.FollowCauses.{WrongPath, WrongStart, NoRoo
 
 -- ---- the three tests
 
-has-step-decides : (S : System) (s u : ℕ) → Decides (hasStep S s u) (Step S s u)
+pub has-step-decides : (S : System) (s u : ℕ) → Decides (hasStep S s u) (Step S s u)
 unfolding hasStep
 has-step-decides S s u =
     decides-as (any-decides (S .steps) (λ j. and-decides (eqb-decides (S .from j) s) (eqb-decides (S .to j) u)))
     (λ p. (p .0, p .1, p .2 .0, p .2 .1)) (λ p. (p .0, p .1, (p .2, p .3)))
 
-path-decides : (side : ℕ) (S : System) (path : List ℕ) → Decides (wrongPath side S path) (WrongPath side S path)
+pub path-decides : (side : ℕ) (S : System) (path : List ℕ) → Decides (wrongPath side S path) (WrongPath side S path)
 unfolding wrongPath
 path-decides side S path =
     or-decides (and-decides (not-decides (eqb-decides side 0)) (not-decides (eqb-decides side 1)))
@@ -52,11 +52,11 @@ path-decides side S path =
     (decides-as (any-decides (length path - 1) (λ i. not-decides (has-step-decides S (byteAt path i) (byteAt path (i + 1)))))
     (λ p. (p .0, omega (arith, p .1), p .2)) (λ p. (p .0, omega (arith, p .1), p .2))))))
 
-start-decides : (v : View) (path : List ℕ) (start : ℕ) → Decides (wrongStart v path start) (WrongStart v path start)
+pub start-decides : (v : View) (path : List ℕ) (start : ℕ) → Decides (wrongStart v path start) (WrongStart v path start)
 unfolding wrongStart
 start-decides v path start = or-decides (not-decides (test-decides (v .related (byteAt path 0) start))) (leb-decides (v .other .states) start)
 
-room-decides : (written given : ℕ) (states blocks : List ℕ) → Decides (noRoom written given states blocks) (NoRoom written given states blocks)
+pub room-decides : (written given : ℕ) (states blocks : List ℕ) → Decides (noRoom written given states blocks) (NoRoom written given states blocks)
 unfolding noRoom
 room-decides written given states blocks = or-decides (ltb-decides (length states) (3 * written)) (ltb-decides (length blocks) (2 * given))
 

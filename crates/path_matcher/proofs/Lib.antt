@@ -1,2 +1,3 @@
 -- Laws of a run followed on the other model.
 pub mod FollowCauseLaws
+pub mod PathLaws

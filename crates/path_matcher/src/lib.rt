@@ -1,1 +1,367 @@
-// A run followed on the other model.
+// A run followed on the other model. It goes by the judge's clauses in order, 2a, then 2b, then 2c, the smallest state each time; a new block begins at each
+// 2a. What it finds is kept until both outputs are known to have room, so that a refusal leaves them as they were.
+use answers::Answer;
+use certificates::Sizes;
+use certified_sides::sides_of;
+use checker::judge;
+use lists::byte;
+use lists::part_of;
+use lists::put_front;
+use obligations::Run;
+use obligations::obligation_at;
+use outcomes::Clause;
+use outcomes::Outcome;
+use sides::Side;
+use sides::entered;
+use sides::first;
+use sides::next;
+use sides::related;
+use sides::states;
+use sides::to;
+use tables::Head;
+ghost use mathlib.Core.Path.{_≡_};
+ghost use mathlib.Core.List.{flatMap};
+ghost use Prim.Native.Nat.{_*_, _≤_, _<_};
+ghost use lib.ListN.{length};
+ghost use Rattle.lists.specs.Lists.{putFront};
+ghost use Rattle.lists.specs.Numbers.{bigBytes};
+ghost use Rattle.answers.specs.Numbers.{sixNumbers};
+ghost use Rattle.answers.specs.Verdicts.{answerOf, outputAfter};
+ghost use Rattle.words.specs.Bits.{firstBit};
+ghost use Rattle.sides.specs.Side.{systemIn, enteredFrom};
+ghost use Rattle.sides.specs.Built.{Linked};
+ghost use Rattle.checker.specs.Judge.{judgeAnswer};
+ghost use Rattle.path_matcher.specs.Following.{entryBytes, blockBytes, wrongPath, followAnswer, followStates, followBlocks};
+ghost use Rattle.path_matcher.specs.OnSides.{stepBetween, runFrom, givenIn, matchedIn, verdictIn, AllMet, StartsAt};
+
+// The most states that are given, and the most that are written: as many as a table has in each block.
+const MOST_GIVEN: usize = 256;
+
+const MOST_STATES: usize = MOST_GIVEN * Head::MAX_STATES;
+
+// A refusal, which names nothing but its file.
+fn refusal(code: usize, file: usize) -> Answer
+    ensures { λ r. ⌜ r ≡ sixNumbers code file 0 ⌝ }
+{
+    Answer {
+        code,
+        file,
+        a: 0,
+        b: 0,
+        c: 0,
+        d: 0,
+    }
+}
+
+// ---- the given path
+
+// The step from s to u, and 256 where there is none.
+fn step_between(side: &Side, s: usize, u: usize) -> usize
+    ensures { λ r. ⌜ r ≡ stepBetween (now (side .entry)) s u ⌝ }
+{
+    let mut j = first(side, s);
+    while j < Head::MAX_STEPS {
+        if to(side, j) == u {
+            return j;
+        }
+        let later = next(side, j);
+        if later <= j {
+            return Head::MAX_STEPS;
+        }
+        j = later;
+    }
+    Head::MAX_STEPS
+}
+
+// Whether the bytes are no path of the side's table, which begins anywhere and has from 1 to 256 states.
+fn is_no_path(side: &Side, path: &[u8]) -> bool
+    requires { ⌜ Linked (now side) ⌝ }
+    ensures { λ r. ⌜ r ≡ wrongPath 0 (systemIn (now (side .entry))) (now (path .entry)) ⌝ }
+{
+    let count = path.len();
+    if count == 0 {
+        return true;
+    }
+    if MOST_GIVEN < count {
+        return true;
+    }
+    let n = states(side);
+    let mut s = byte(path, 0);
+    if n <= s {
+        return true;
+    }
+    let mut i: usize = 1;
+    while i < count {
+        let after = entered(side, s);
+        s = byte(path, i);
+        if !after.has(s) {
+            return true;
+        }
+        if n <= s {
+            return true;
+        }
+        i += 1;
+    }
+    false
+}
+
+// ---- what is written
+
+// A block's number, over a part of two bytes.
+fn put_number(block: usize, part: &mut [u8])
+    requires { ⌜ length (now part) ≡ 2 ⌝ }
+    ensures { λ _. ⌜ now (part .exit) ≡ bigBytes 2 block ⌝ }
+{
+    part[0] = (block / 256 % 256) as u8;
+    part[1] = (block % 256) as u8;
+}
+
+// A state and its block's number, over a part of three bytes.
+fn put_entry(state: usize, block: usize, part: &mut [u8])
+    requires { ⌜ (state < 256) × (length (now part) ≡ 3) ⌝ }
+    ensures { λ _. ⌜ now (part .exit) ≡ entryBytes (record { state = state; block = block }) ⌝ }
+{
+    part[0] = state as u8;
+    part[1] = (block / 256 % 256) as u8;
+    part[2] = (block % 256) as u8;
+}
+
+// ---- the matching path
+
+// Where the ranks of the path's side begin.
+fn run_from(side: usize, sizes: Sizes) -> Run
+    ensures { λ r. ⌜ r ≡ runFrom side sizes ⌝ }
+{
+    if side == 0 {
+        return Run::left(sizes);
+    }
+    Run::right(sizes)
+}
+
+// The smallest state that a step from s enters, and 64 where no step leaves s.
+fn smallest_after(side: &Side, s: usize) -> usize
+    ensures { λ r. ⌜ r ≡ firstBit (enteredFrom (now (side .entry)) s) ⌝ }
+{
+    let states = entered(side, s);
+    states.first()
+}
+
+// Follows the path of our side from their state `start` on: the states that match it go to the front of `found`, the block numbers of the given ones to the
+// front of `numbers`, and how many states match it is answered.
+fn follow_path(
+    ours: &Side,
+    theirs: &Side,
+    certificate: &[u8],
+    sizes: Sizes,
+    side: usize,
+    start: usize,
+    path: &[u8],
+    found: &mut [u8; 3 * MOST_STATES],
+    numbers: &mut [u8; 2 * MOST_GIVEN],
+) -> usize
+    requires { ⌜ AllMet (now ours) (now theirs) (now certificate) sizes side ⌝ }
+    requires { ⌜ StartsAt (now ours) (now theirs) (now path) start ⌝ }
+    ensures count { λ r. ⌜ r ≡ length (matchedIn (now (ours .entry)) (now (theirs .entry)) (now (certificate .entry)) sizes side (now (path .entry)) start) ⌝ }
+    ensures small { λ r. ⌜ r ≤ 16384 ⌝ }
+    ensures states { λ _. ⌜ now (found .exit) ≡ putFront (flatMap entryBytes
+        (matchedIn (now (ours .entry)) (now (theirs .entry)) (now (certificate .entry)) sizes side (now (path .entry)) start)) (now (found .entry)) ⌝ }
+    ensures blocks { λ _. ⌜ now (numbers .exit) ≡ putFront (flatMap blockBytes
+        (givenIn (now (ours .entry)) (now (theirs .entry)) (now (certificate .entry)) sizes side (now (path .entry)) start)) (now (numbers .entry)) ⌝ }
+{
+    let matching: &mut [u8] = found;
+    let blocks: &mut [u8] = numbers;
+    let run = run_from(side, sizes);
+    put_entry(start, 0, &mut matching[0..3]);
+    put_number(0, &mut blocks[0..2]);
+    let last = path.len() - 1;
+    let mut place: usize = 0;
+    let mut state = start;
+    let mut block: usize = 0;
+    let mut count: usize = 1;
+    let mut j = step_between(ours, byte(path, 0), byte(path, 1));
+    while place < last {
+        let outcome = obligation_at(ours, theirs, certificate, run, j, state);
+        let Outcome::Met(clause, x) = outcome else {
+            // In an accepted certificate every obligation is met.
+            return count;
+        };
+        match clause {
+            Clause::Step => {
+                place += 1;
+                state = x;
+                block += 1;
+                put_number(block, &mut blocks[2 * place..2 * place + 2]);
+                put_entry(state, block, &mut matching[3 * count..3 * count + 3]);
+                count += 1;
+                j = step_between(ours, byte(path, place), byte(path, place + 1));
+            }
+            Clause::Stutter => {
+                place += 1;
+                put_number(block, &mut blocks[2 * place..2 * place + 2]);
+                j = step_between(ours, byte(path, place), byte(path, place + 1));
+            }
+            Clause::Match => {
+                state = x;
+                put_entry(state, block, &mut matching[3 * count..3 * count + 3]);
+                count += 1;
+            }
+        }
+    }
+    // Where the given path ends in a terminal state, it goes on to one.
+    if smallest_after(ours, byte(path, last)) < Head::MAX_STATES {
+        return count;
+    }
+    let mut x = smallest_after(theirs, state);
+    while x < Head::MAX_STATES {
+        state = x;
+        put_entry(state, block, &mut matching[3 * count..3 * count + 3]);
+        count += 1;
+        x = smallest_after(theirs, state);
+    }
+    count
+}
+
+// Follows a path of our side: 25, 26 or 27, or the matching path and the block numbers of the given states over the fronts of the two outputs.
+fn follow_sides(
+    ours: &Side,
+    theirs: &Side,
+    certificate: &[u8],
+    sizes: Sizes,
+    side: usize,
+    start: usize,
+    path: &[u8],
+    states: &mut [u8],
+    blocks: &mut [u8],
+) -> Answer
+    requires { ⌜ AllMet (now ours) (now theirs) (now certificate) sizes side ⌝ }
+    requires { ⌜ side < 2 ⌝ }
+    ensures value { λ r. ⌜ r ≡ answerOf (sixNumbers 0 0)
+        (verdictIn (now (ours .entry)) (now (theirs .entry)) (now (certificate .entry)) sizes side start (now (path .entry)) (now (states .entry))
+        (now (blocks .entry))) ⌝ }
+    ensures states { λ _. ⌜ now (states .exit) ≡ outputAfter
+        (verdictIn (now (ours .entry)) (now (theirs .entry)) (now (certificate .entry)) sizes side start (now (path .entry)) (now (states .entry))
+        (now (blocks .entry)))
+        (flatMap entryBytes (matchedIn (now (ours .entry)) (now (theirs .entry)) (now (certificate .entry)) sizes side (now (path .entry)) start))
+        (now (states .entry)) ⌝ }
+    ensures blocks { λ _. ⌜ now (blocks .exit) ≡ outputAfter
+        (verdictIn (now (ours .entry)) (now (theirs .entry)) (now (certificate .entry)) sizes side start (now (path .entry)) (now (states .entry))
+        (now (blocks .entry)))
+        (flatMap blockBytes (givenIn (now (ours .entry)) (now (theirs .entry)) (now (certificate .entry)) sizes side (now (path .entry)) start))
+        (now (blocks .entry)) ⌝ }
+{
+    if is_no_path(ours, path) {
+        return refusal(25, 4);
+    }
+    let starts = related(ours, byte(path, 0));
+    if !starts.has(start) {
+        return refusal(26, 4);
+    }
+    let mut found: [u8; 3 * MOST_STATES] = [0; 3 * MOST_STATES];
+    let mut numbers: [u8; 2 * MOST_GIVEN] = [0; 2 * MOST_GIVEN];
+    let count = follow_path(
+        ours,
+        theirs,
+        certificate,
+        sizes,
+        side,
+        start,
+        path,
+        &mut found,
+        &mut numbers,
+    );
+    if states.len() < 3 * count {
+        return refusal(27, 3);
+    }
+    if blocks.len() < 2 * path.len() {
+        return refusal(27, 3);
+    }
+    put_front(part_of(&found, 0, 3 * count), states);
+    put_front(part_of(&numbers, 0, 2 * path.len()), blocks);
+    Answer {
+        code: 0,
+        file: 0,
+        a: count,
+        b: 0,
+        c: 0,
+        d: 0,
+    }
+}
+
+// Follows a path of two tables and a certificate that the judge accepts.
+fn follow_accepted(
+    left: &[u8],
+    right: &[u8],
+    certificate: &[u8],
+    side: usize,
+    start: usize,
+    path: &[u8],
+    states: &mut [u8],
+    blocks: &mut [u8],
+) -> Answer
+    requires { ⌜ judgeAnswer (now left) (now right) (now certificate) .code ≡ 0 ⌝ }
+    ensures value { λ r. ⌜ r ≡ followAnswer (now (left .entry)) (now (right .entry)) (now (certificate .entry)) side start (now (path .entry))
+        (now (states .entry)) (now (blocks .entry)) ⌝ }
+    ensures states { λ _. ⌜ now (states .exit) ≡ followStates (now (left .entry)) (now (right .entry)) (now (certificate .entry)) side start
+        (now (path .entry)) (now (states .entry)) (now (blocks .entry)) ⌝ }
+    ensures blocks { λ _. ⌜ now (blocks .exit) ≡ followBlocks (now (left .entry)) (now (right .entry)) (now (certificate .entry)) side start
+        (now (path .entry)) (now (states .entry)) (now (blocks .entry)) ⌝ }
+{
+    let sides = sides_of(left, right, certificate);
+    let ours = sides.ours;
+    let theirs = sides.theirs;
+    let sizes = sides.sizes;
+    if side == 0 {
+        return follow_sides(
+            &ours,
+            &theirs,
+            certificate,
+            sizes,
+            0,
+            start,
+            path,
+            states,
+            blocks,
+        );
+    }
+    if side == 1 {
+        return follow_sides(
+            &theirs,
+            &ours,
+            certificate,
+            sizes,
+            1,
+            start,
+            path,
+            states,
+            blocks,
+        );
+    }
+    refusal(25, 4)
+}
+
+// Follows a path of the side's table, 0 the left one and 1 the right one, on the other from the state `start` on: for any bytes and any numbers, the six
+// numbers of the answer. The states that match it, three bytes each, go to the front of `states`, and the block numbers of the given states, two bytes
+// each, to the front of `blocks`; on a refusal both stay as they were.
+pub fn follow(
+    left: &[u8],
+    right: &[u8],
+    certificate: &[u8],
+    side: usize,
+    start: usize,
+    path: &[u8],
+    states: &mut [u8],
+    blocks: &mut [u8],
+) -> Answer
+    ensures value { λ r. ⌜ r ≡ followAnswer (now (left .entry)) (now (right .entry)) (now (certificate .entry)) side start (now (path .entry))
+        (now (states .entry)) (now (blocks .entry)) ⌝ }
+    ensures states { λ _. ⌜ now (states .exit) ≡ followStates (now (left .entry)) (now (right .entry)) (now (certificate .entry)) side start
+        (now (path .entry)) (now (states .entry)) (now (blocks .entry)) ⌝ }
+    ensures blocks { λ _. ⌜ now (blocks .exit) ≡ followBlocks (now (left .entry)) (now (right .entry)) (now (certificate .entry)) side start
+        (now (path .entry)) (now (states .entry)) (now (blocks .entry)) ⌝ }
+{
+    let answer = judge(left, right, certificate);
+    if answer.code != 0 {
+        return answer;
+    }
+    follow_accepted(left, right, certificate, side, start, path, states, blocks)
+}
