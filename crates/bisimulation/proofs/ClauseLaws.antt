@@ -1,17 +1,74 @@
--- The judge's tests say what the clauses say, each read off and put together, for one side. Assumes nothing.
-use Prim.Native.Nat.{ℕ, _<_}
+-- The judge's tests say what the clauses say, each read off and put together, for one side; and the matcher's pick is a step that passes. Assumes nothing.
+use Prim.Native.Nat.{ℕ, suc, _<_}
 use mathlib.Core.Path.{_≡_, refl}
-use mathlib.Core.Logic.{_↔_, _⊎_, inl, inr, ⊎-elim}
-use mathlib.Core.Bool.{Bool, _||_}
+use mathlib.Core.Logic.{_↔_, inl, inr, ⊎-elim}
+use mathlib.Core.Bool.{Bool, _&&_, _||_}
+use native.Mathlib.Omega.{arith}
 use lib.Dec.{T, eqb, eqb→eq, ltb→lt, lt→ltb}
-use Rattle.lists.proofs.BelowLaws.{any-e, any-i, all-e, all-i}
+use Rattle.lists.specs.Below.{anyBelow, mostBelow, Smallest}
+use Rattle.lists.proofs.BelowLaws.{any-e, any-i, all-e, all-i, most-ge, first-le, first-at, first-smallest, smallest-as}
 use Rattle.lists.proofs.BoolLaws.{and-l, and-r, and-i, or-e, or-l, or-r, imp-i, imp-e, eq→eqb}
 use Rattle.bisimulation.specs.Clauses.{Meets2a, Meets2b, Meets2c, Meets, EveryObligation, Certified}
-use Rattle.bisimulation.specs.Judge.{is2a, is2b, is2c, isMet, allPairs, allStepsFrom, initialRelated, labelsEqual, obligationsMet, accepts}
-use Rattle.bisimulation.specs.Systems.{View, flip, Ranks, swap, WellFormed, InitialRelated, LabelsEqual}
+use Rattle.bisimulation.specs.Judge.{
+  meets2a,
+  meets2c,
+  is2a,
+  is2b,
+  is2c,
+  isMet,
+  allPairs,
+  allStepsFrom,
+  initialRelated,
+  labelsEqual,
+  obligationsMet,
+  accepts,
+}
+use Rattle.bisimulation.specs.Matcher.{smallestEntered, smallestStep}
+use Rattle.bisimulation.specs.Systems.{System, View, flip, Ranks, swap, WellFormed, InitialRelated, LabelsEqual}
 
 pub flip-formed : (v : View) → WellFormed v → WellFormed (flip v)
 flip-formed v w = record { here = w .there; there = w .here }
+
+-- ---- the smallest state that steps enter
+
+-- Some step that passes the test enters x.
+abbrev pub Enters : System → (ℕ → Bool) → ℕ → Type 0
+Enters S test x = (k : ℕ) × (k < S .steps) × T (test k) × (S .to k ≡ x)
+
+module _ (S : System) (test : ℕ → Bool) (h : T (anyBelow (S .steps) test)) where
+  -- where some step passes the test, the smallest is the smallest that one enters
+  pub smallest-entered : Smallest (Enters S test) (smallestEntered S test)
+  unfolding smallestEntered
+  smallest-entered =
+      let a = any-e _ _ h in
+      smallest-as (λ x. T (passed x)) (Enters S test) entered told
+      (first-smallest (suc (mostBelow (S .steps) (S .to))) passed small (S .to (a .0)) (told _ (a .0, a .1, a .2, refl)))
+    where
+      passed : ℕ → Bool
+      passed x = anyBelow (S .steps) (λ k. test k && eqb (S .to k) x)
+
+      entered : (x : ℕ) → T (passed x) → Enters S test x
+      entered x p =
+          let q = any-e _ _ p in
+          (q .0, q .1, and-l (test (q .0)) _ (q .2), eqb→eq _ _ (and-r (test (q .0)) _ (q .2)))
+
+      told : (x : ℕ) → Enters S test x → T (passed x)
+      told x e = any-i _ _ (e .0) (e .1) (and-i (test (e .0)) _ (e .2) (eq→eqb _ _ (e .3)))
+
+      small : (x : ℕ) → T (passed x) → x < suc (mostBelow (S .steps) (S .to))
+      small x p = let e = entered x p in let m = most-ge (S .steps) (S .to) (e .0) (e .1) in rw (← (e .3)) (omega arith)
+
+  -- the step picked is one, passes, and enters that state
+  pub pick-passes : let k = smallestStep S test in (k < S .steps) × T (test k) × (S .to k ≡ smallestEntered S test)
+  unfolding smallestStep
+  pick-passes =
+      let e = smallest-entered .0 in
+      let g : ℕ → Bool = λ k. test k && eqb (S .to k) (smallestEntered S test) in
+      let b : T (g (e .0)) = and-i (test (e .0)) _ (e .2) (eq→eqb _ _ (e .3)) in
+      let c = first-at (S .steps) g (e .0) (e .1) b in
+      (omega (arith, e .1, first-le (S .steps) g (e .0) (e .1) b), search and-l, eqb→eq _ _ (search and-r))
+
+-- ---- the clauses
 
 module _ (v : View) where
   open View v using (own, other, related, serves)
@@ -42,12 +99,16 @@ module _ (v : View) where
   unfolding allStepsFrom
   steps-i s f h = all-i _ _ λ j l. imp-i (eqb (own .from j) s) (f j) λ e. h j l (eqb→eq _ _ e)
 
-  pub is2a-e : (j t : ℕ) → T (is2a v j t) → Meets2a v j t
+  -- the step that the matcher picks by 2a
+  pub picked-2a : (j t : ℕ) → T (is2a v j t)
+      → let k = smallestStep other (meets2a v j t) in (k < other .steps) × (other .from k ≡ t) × T (serves j k) × T (related (own .to j) (other .to k))
   unfolding is2a
-  is2a-e j t h =
-      let r = any-e _ _ h in
-      let p = r .2 in
-      (r .0, r .1, eqb→eq _ _ (search (and-l, and-r)), search (and-l, and-r), search (and-l, and-r))
+  picked-2a j t h =
+      let q = pick-passes other (meets2a v j t) h in
+      (q .0, eqb→eq _ _ (search (and-l, and-r)), search (and-l, and-r), search (and-l, and-r))
+
+  pub is2a-e : (j t : ℕ) → T (is2a v j t) → Meets2a v j t
+  is2a-e j t h = let q = picked-2a j t h in (_, q .0, q .1, q .2, q .3)
 
   pub is2a-i : (j t : ℕ) → Meets2a v j t → T (is2a v j t)
   unfolding is2a
@@ -62,12 +123,18 @@ module _ (v : View) where
     unfolding is2b
     is2b-i j t p = search (and-i, lt→ltb)
 
-    pub is2c-e : (j t : ℕ) → T (is2c v r j t) → Meets2c v r j t
+    -- the step that it picks by 2c
+    pub picked-2c : (j t : ℕ) → T (is2c v r j t)
+        → let k = smallestStep other (meets2c v r j t) in
+        (k < other .steps) × (other .from k ≡ t) × T (other .silent k) × T (related (own .from j) (other .to k))
+        × (r .match j (other .to k) < r .match j t)
     unfolding is2c
-    is2c-e j t h =
-        let q = any-e _ _ h in
-        let p = q .2 in
-        (q .0, q .1, eqb→eq _ _ (search (and-l, and-r)), search (and-l, and-r), search (and-l, and-r), ltb→lt _ _ (search (and-l, and-r)))
+    picked-2c j t h =
+        let q = pick-passes other (meets2c v r j t) h in
+        (q .0, eqb→eq _ _ (search (and-l, and-r)), search (and-l, and-r), search (and-l, and-r), ltb→lt _ _ (search (and-l, and-r)))
+
+    pub is2c-e : (j t : ℕ) → T (is2c v r j t) → Meets2c v r j t
+    is2c-e j t h = let q = picked-2c j t h in (_, q .0, q .1, q .2, q .3, q .4)
 
     pub is2c-i : (j t : ℕ) → Meets2c v r j t → T (is2c v r j t)
     unfolding is2c

@@ -10,35 +10,20 @@ use mathlib.Core.Bool.{Bool, true, false, _&&_, not, cond}
 use mathlib.Core.List.{List, [], _∷_, flatten}
 use native.Mathlib.Nat.{not-suc-le-zero, le-refl}
 use native.Mathlib.Omega.{arith}
-use lib.Dec.{T, T-not, not-T, eqb, eqb→eq, eqb-refl, ltb→lt}
+use lib.Dec.{T, T-not, not-T, eqb, eqb→eq}
 use lib.ListN.{length}
-use Rattle.lists.specs.Below.{anyBelow, firstBelow}
-use Rattle.lists.proofs.BelowLaws.{any-e, any-i, first-le, first-at}
+use Rattle.lists.proofs.BelowLaws.{any-e, any-i}
 use Rattle.lists.proofs.BoolLaws.{and-l, and-r, and-i, eq→eqb}
 use Rattle.bisimulation.specs.Clauses.{Meets, EveryObligation}
 use Rattle.bisimulation.specs.Judge.{meets2a, meets2c, is2a, is2b, is2c, accepts}
-use Rattle.bisimulation.specs.Matcher.{smallestEntered, smallestStep, moves, nothing, enter, grow, push, choose, matchSteps, movesNeeded, matchPath}
+use Rattle.bisimulation.specs.Matcher.{smallestStep, moves, nothing, enter, grow, push, choose, matchSteps, movesNeeded, matchPath}
 use Rattle.bisimulation.specs.StepPaths.{StepPath, Cut, Fits, StepPathProperty}
 use Rattle.bisimulation.specs.Systems.{System, Terminal, View, flip, Ranks, swap, WellFormed}
 use Rattle.bisimulation.proofs.BlockLaws.{Fitted, fitted-fits}
-use Rattle.bisimulation.proofs.ClauseLaws.{flip-formed, is2a-i, is2b-i, is2c-i, is2b-e, is2c-e, accepts-iff}
+use Rattle.bisimulation.proofs.ClauseLaws.{pick-passes, flip-formed, picked-2a, picked-2c, is2a-i, is2b-i, is2c-i, is2b-e, is2c-e, accepts-iff}
 use Rattle.bisimulation.proofs.RankLaws.{lower, lower-falls, lower-bound}
 
--- the step picked is one, and passes
-pub pick-passes : (S : System) → ((j : ℕ) → j < S .steps → S .to j < S .states)
-    → (f : ℕ → Bool) → T (anyBelow (S .steps) f) → (smallestStep S f < S .steps) × T (f (smallestStep S f))
-unfolding smallestStep smallestEntered
-pick-passes S w f h =
-    let q = any-e (S .steps) f h in
-    let g : ℕ → Bool = λ x. anyBelow (S .steps) (λ i. f i && eqb (S .to i) x) in
-    let x =
-    first-at (S .states) g (S .to (q .0)) (w (q .0) (q .1))
-    (any-i (S .steps) _ (q .0) (q .1) (and-i (f (q .0)) (eqb (S .to (q .0)) (S .to (q .0))) (q .2) (eqb-refl (S .to (q .0))))) in
-    let p = any-e (S .steps) _ x in
-    let y = first-at (S .steps) (λ k. f k && eqb (S .to k) (firstBelow (S .states) g)) (p .0) (p .1) (p .2) in
-    (omega (arith, p .1, first-le (S .steps) (λ k. f k && eqb (S .to k) (firstBelow (S .states) g)) (p .0) (p .1) (p .2)), search and-l)
-
-still-terminal : (S : System) (s : ℕ) → (T (moves S s) → ⊥) → Terminal S s
+pub still-terminal : (S : System) (s : ℕ) → (T (moves S s) → ⊥) → Terminal S s
 unfolding moves
 still-terminal S s h j l e = h (any-i _ (λ i. eqb (S .from i) s) j l (eq→eqb _ _ e))
 
@@ -149,7 +134,7 @@ module _ (v : View) (r : Ranks) (w : WellFormed v) (D : EveryObligation Meets v 
   not-2a-shut j t na q k l e p h = na (is2a-i v j t (k, l, e, w .here .quiet j k q p, h))
 
   -- a terminal state s: a step from t is met by 2b of the other side
-  terminal-2b : (s t : ℕ) → T (related s t) → Terminal own s → (k : ℕ) → k < other .steps → other .from k ≡ t
+  pub terminal-2b : (s t : ℕ) → T (related s t) → Terminal own s → (k : ℕ) → k < other .steps → other .from k ≡ t
       → T (other .silent k) × T (related s (other .to k)) × (r .stutter′ (other .to k) s < r .stutter′ t s)
   terminal-2b s t h d k l e =
       ⊎-elim (λ q. absurd (d (q .0) (q .1) (q .2)))
@@ -192,21 +177,6 @@ module _ (v : View) (r : Ranks) (w : WellFormed v) (D : EveryObligation Meets v 
         few = d;
       }
 
-  picked-2a : (j t : ℕ) → T (is2a v j t)
-      → let k = smallestStep other (meets2a v j t) in (k < other .steps) × (other .from k ≡ t) × T (serves j k) × T (related (own .to j) (other .to k))
-  unfolding is2a
-  picked-2a j t h =
-      let q = pick-passes other (w .there .to<) (meets2a v j t) h in
-      (q .0, eqb→eq _ _ (search (and-l, and-r)), search (and-l, and-r), search (and-l, and-r))
-
-  picked-2c : (j t : ℕ) → T (is2c v r j t)
-      → let k = smallestStep other (meets2c v r j t) in
-      (k < other .steps) × (other .from k ≡ t) × T (other .silent k) × T (related (own .from j) (other .to k)) × (r .match j (other .to k) < r .match j t)
-  unfolding is2c
-  picked-2c j t h =
-      let q = pick-passes other (w .there .to<) (meets2c v r j t) h in
-      (q .0, eqb→eq _ _ (search (and-l, and-r)), search (and-l, and-r), search (and-l, and-r), ltb→lt _ _ (search (and-l, and-r)))
-
   -- the end of the path: on to a terminal state where s is one
   tail : (M N s t : ℕ) → lower (other .states) (λ y. r .stutter′ y s) (r .stutter′ t s) < M → M ≤ N → T (related s t)
       → Alone (λ y. r .stutter′ y s) s [] t (matchSteps v r N s [] t)
@@ -218,7 +188,7 @@ module _ (v : View) (r : Ranks) (w : WellFormed v) (D : EveryObligation Meets v 
       (λ m.
       let f : ℕ → Bool = λ i. eqb (other .from i) t in
       let k = smallestStep other f in
-      let q = pick-passes other (w .there .to<) f (unfold moves in and-r (not (moves own s)) (moves other t) m) in
+      let q = pick-passes other f (unfold moves in and-r (not (moves own s)) (moves other t) m) in
       let e = eqb→eq (other .from k) t (q .1) in
       let c = terminal-2b s t h (still-terminal own s (T-not (moves own s) (and-l (not (moves own s)) (moves other t) m))) k (q .0) e in
       let d = lower-falls (other .states) (λ y. r .stutter′ y s) (r .stutter′ t s) (other .to k) (w .there .to< k (q .0)) (c .2) in
@@ -236,7 +206,7 @@ module _ (v : View) (r : Ranks) (w : WellFormed v) (D : EveryObligation Meets v 
 
   entered : (s j : ℕ) (J : List ℕ) (N t : ℕ) → Fresh (own .to j) J → movesNeeded (other .states) J ≤ N → T (related s t) → T (is2a v j t)
       → let k = smallestStep other (meets2a v j t) in Fitted v s (j ∷ J) t (enter j k (matchSteps v r N (own .to j) J (other .to k)))
-  entered s j J N t F b h a = let q = picked-2a j t a in enter-fits v w s j J t _ _ h (q .0) (q .1) (q .2) (F N _ b (q .3))
+  entered s j J N t F b h a = let q = picked-2a v j t a in enter-fits v w s j J t _ _ h (q .0) (q .1) (q .2) (F N _ b (q .3))
 
   -- 2a fails at t, and 2c goes on to the next state: there 2b cannot hold
   next-2c : (j : ℕ) (J : List ℕ) (s t : ℕ) (x : ℕ → Cut) → own .from j ≡ s → T (related s t) → (T (is2a v j t) → ⊥) → T (is2c v r j t)
@@ -245,7 +215,7 @@ module _ (v : View) (r : Ranks) (w : WellFormed v) (D : EveryObligation Meets v 
       → Alone (r .match j) s (j ∷ J) (other .to k) (x k))
       → let k = smallestStep other (meets2c v r j t) in Alone (r .match j) s (j ∷ J) t (push k (x k))
   next-2c j J s t x e h na c go =
-      let q = picked-2c j t c in
+      let q = picked-2c v r j t c in
       let p = rw e at (q .3) in
       pushed (r .match j) s (j ∷ J) t _ _ h (q .0) (q .1) (q .2) (q .4)
       (go _ (lower-falls (other .states) (r .match j) (r .match j t) _ (w .there .to< _ (q .0)) (q .4))

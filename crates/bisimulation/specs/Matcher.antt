@@ -4,18 +4,18 @@ use Prim.Native.Nat.{ℕ, zero, suc, _+_}
 use mathlib.Core.Bool.{Bool, _&&_, not, cond}
 use mathlib.Core.List.{List, [], _∷_}
 use lib.Dec.{eqb}
-use Rattle.lists.specs.Below.{anyBelow, firstBelow}
+use Rattle.lists.specs.Below.{anyBelow, firstBelow, mostBelow}
 use Rattle.bisimulation.specs.Systems.{System, View, Ranks}
 use Rattle.bisimulation.specs.Judge.{meets2a, meets2c, is2a, is2b, is2c}
 use Rattle.bisimulation.specs.StepPaths.{Cut}
 
--- The smallest state that a passing step enters.
+-- The smallest state that some step which passes the test enters, and one more than the greatest end of a step where none passes.
 unfoldable pub smallestEntered : System → (ℕ → Bool) → ℕ
-smallestEntered S f = firstBelow (S .states) (λ x. anyBelow (S .steps) (λ i. f i && eqb (S .to i) x))
+smallestEntered S test = firstBelow (suc (mostBelow (S .steps) (S .to))) (λ x. anyBelow (S .steps) (λ k. test k && eqb (S .to k) x))
 
 -- Of the steps that pass, the first that enters the smallest state.
 unfoldable pub smallestStep : System → (ℕ → Bool) → ℕ
-smallestStep S f = firstBelow (S .steps) (λ k. f k && eqb (S .to k) (smallestEntered S f))
+smallestStep S test = firstBelow (S .steps) (λ k. test k && eqb (S .to k) (smallestEntered S test))
 
 -- Some step leaves s.
 unfoldable pub moves : System → ℕ → Bool

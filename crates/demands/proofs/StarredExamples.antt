@@ -13,6 +13,7 @@ use Rattle.lists.proofs.FillLaws.{getD-past}
 use Rattle.words.specs.Bits.{hasBit, addBit, hasFrom, countBits, firstBit}
 use Rattle.bisimulation.specs.PathProperty.{PathProperty}
 use Rattle.bisimulation.specs.Judge.{is2a, is2b, is2c}
+use Rattle.bisimulation.specs.Matcher.{smallestEntered}
 use Rattle.bisimulation.specs.Triples.{ahead}
 use Rattle.bisimulation.specs.Systems.{stepsFrom}
 use Rattle.bisimulation.specs.Maker.{matchesWithin, matched, distance, mayChain, chainAlong, stutterRank, matchRank}
@@ -39,7 +40,7 @@ use Rattle.certificates.specs.Layout.{sizesOf, certificateLength, alAt, arAt, c
 use Rattle.certificate_reader.specs.CertificateReading.{certificateSizesFit, wideRow, readRows, readCertificate, readRelation}
 use Rattle.certificate_reader.specs.CertificateReading as certificates
 use Rattle.certificates.specs.CertificateModel.{AreBytes, relatedIn, viewOf, ranksOf}
-use Rattle.outcomes.specs.Obligation.{smallestEntered, outcomeAfter2a, isApart, obligationAt}
+use Rattle.outcomes.specs.Obligation.{outcomeAfter2a, isApart, obligationAt}
 use Rattle.answers.specs.Verdicts.{along, firstOf}
 use Rattle.answers.specs.declared.Answer.{Answer}
 use Rattle.obligations.specs.Judging.{pairChecks, checksBy, checks, startsVerdict, checkVerdict}

@@ -12,15 +12,15 @@ use Rattle.answers.proofs.DecideLaws.{Decides, decides-as, test-decides, eqb-de
 use Rattle.bisimulation.specs.Systems.{View, Ranks}
 use Rattle.bisimulation.specs.Clauses.{Meets2a, Meets2b, Meets2c, Meets}
 use Rattle.bisimulation.specs.Judge.{meets2a, meets2c, is2a, is2b, is2c}
+use Rattle.bisimulation.specs.Matcher.{smallestEntered}
 use Rattle.bisimulation.specs.Triples.{ahead}
-use Rattle.bisimulation.proofs.ClauseLaws.{is2a-e, is2a-i, is2b-e, is2b-i, is2c-e, is2c-i}
+use Rattle.bisimulation.proofs.ClauseLaws.{Enters, smallest-entered, is2a-e, is2a-i, is2b-e, is2b-i, is2c-e, is2c-i}
 use Rattle.outcomes.specs.declared.Clause.{Clause}
 use Rattle.outcomes.specs.declared.Clause.the-variants.{Step, Stutter, Match}
 use Rattle.outcomes.specs.declared.Failure.the-variants as failure
 use Rattle.outcomes.specs.declared.Outcome.{Outcome}
 use Rattle.outcomes.specs.declared.Outcome.the-variants.{Met, Failed}
-use Rattle.outcomes.specs.Obligation.{smallestEntered, outcomeAfter2a, isApart, obligationAt}
-use Rattle.outcomes.proofs.ObligationLaws.{Enters, smallest-entered}
+use Rattle.outcomes.specs.Obligation.{outcomeAfter2a, isApart, obligationAt}
 use Rattle.obligations.specs.Outcomes.{Apart, MetFirstBy, ServesBy, HasOutcome}
 
 -- ---- the tests decide the words

@@ -1,5 +1,5 @@
 -- Laws of one obligation on words: the walk that finds the smallest falling state, and that the words give the theory's outcome. Assumes nothing.
-use Prim.Native.Nat.{ℕ, suc, _^_, _≤_, _<_}
+use Prim.Native.Nat.{ℕ, _^_, _≤_, _<_}
 use mathlib.Core.Path.{_≡_, refl, sym, ap, ap₂, _∙_, subst}
 use mathlib.Core.Bool.{Bool, true, false, cond, not, _&&_, and-false}
 use mathlib.Core.List.{List}
@@ -8,7 +8,7 @@ use native.Mathlib.Decide.{ℕ-discrete}
 use lib.Bits.{bitAnd}
 use lib.Dec.{T, ltb, eqb, lt→ltb, ltb→lt, eqb→eq}
 use borrow.Author.Tests.{le-ltb, ne-eqb}
-use Rattle.lists.specs.Below.{anyBelow, firstBelow, mostBelow, Smallest}
+use Rattle.lists.specs.Below.{anyBelow, firstBelow}
 use Rattle.lists.specs.Numbers.{byteAt}
 use Rattle.lists.proofs.BoolLaws.{and-l, and-r, and-i, eq→eqb, same-T}
 use Rattle.lists.proofs.BelowLaws as below
@@ -19,9 +19,11 @@ use Rattle.outcomes.specs.declared.Failure.the-variants.{Apart, Rank}
 use Rattle.outcomes.specs.declared.Outcome.the-variants.{Met, Failed}
 use Rattle.bisimulation.specs.Systems.{System, View, Ranks, stays}
 use Rattle.bisimulation.specs.Judge.{meets2a, meets2c, is2a, is2b, is2c}
+use Rattle.bisimulation.specs.Matcher.{smallestEntered}
 use Rattle.bisimulation.specs.Triples.{ahead}
+use Rattle.bisimulation.proofs.ClauseLaws.{Enters, smallest-entered}
 use Rattle.outcomes.specs.declared.Facing.{Facing}
-use Rattle.outcomes.specs.Obligation.{smallestEntered, outcomeAfter2a, isApart, obligationAt, firstFalling, staysAt, withoutStep, obligationOf}
+use Rattle.outcomes.specs.Obligation.{outcomeAfter2a, isApart, obligationAt, firstFalling, staysAt, withoutStep, obligationOf}
 
 -- ---- what is asked of words and numbers
 
@@ -109,32 +111,6 @@ same-outcome false false true d t e g = ap (Met Match) (g tt)
 same-outcome false false false d t e g = refl
 
 -- ---- the states that steps enter
-
--- Some step that passes the test enters x.
-abbrev pub Enters : System → (ℕ → Bool) → ℕ → Type 0
-Enters S test x = (k : ℕ) × (k < S .steps) × T (test k) × (S .to k ≡ x)
-
--- where some step passes the test, the smallest is the smallest that one enters
-pub smallest-entered : (S : System) (test : ℕ → Bool) → T (anyBelow (S .steps) test) → Smallest (Enters S test) (smallestEntered S test)
-unfolding smallestEntered
-smallest-entered S test h =
-    let a = below.any-e _ _ h in
-    below.smallest-as (λ x. T (passed x)) (Enters S test) entered told
-    (below.first-smallest (suc (mostBelow (S .steps) (S .to))) passed small (S .to (a .0)) (told _ (a .0, a .1, a .2, refl)))
-  where
-    passed : ℕ → Bool
-    passed x = anyBelow (S .steps) (λ k. test k && eqb (S .to k) x)
-
-    entered : (x : ℕ) → T (passed x) → Enters S test x
-    entered x p =
-        let q = below.any-e _ _ p in
-        (q .0, q .1, and-l (test (q .0)) _ (q .2), eqb→eq _ _ (and-r (test (q .0)) _ (q .2)))
-
-    told : (x : ℕ) → Enters S test x → T (passed x)
-    told x e = below.any-i _ _ (e .0) (e .1) (and-i (test (e .0)) _ (e .2) (eq→eqb _ _ (e .3)))
-
-    small : (x : ℕ) → T (passed x) → x < suc (mostBelow (S .steps) (S .to))
-    small x p = let e = entered x p in let m = below.most-ge (S .steps) (S .to) (e .0) (e .1) in rw (← (e .3)) (omega arith)
 
 -- The test on states tells those that steps which pass the other test enter, and all are below 64.
 record Tells (S : System) (test f : ℕ → Bool) : Type 0 where

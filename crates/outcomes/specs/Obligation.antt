@@ -1,14 +1,15 @@
 -- One obligation (document 01, Duties and clauses): its outcome by the theory's tests, and the same on words of states.
-use Prim.Native.Nat.{ℕ, suc}
+use Prim.Native.Nat.{ℕ}
 use mathlib.Core.Bool.{Bool, cond, not, _&&_}
 use mathlib.Core.List.{List}
 use lib.Bits.{bitAnd}
-use lib.Dec.{ltb, eqb}
-use Rattle.lists.specs.Below.{anyBelow, firstBelow, mostBelow}
+use lib.Dec.{ltb}
+use Rattle.lists.specs.Below.{firstBelow}
 use Rattle.lists.specs.Numbers.{byteAt}
 use Rattle.words.specs.Bits.{hasBit, firstBit}
-use Rattle.bisimulation.specs.Systems.{System, View, Ranks, stays}
+use Rattle.bisimulation.specs.Systems.{View, Ranks, stays}
 use Rattle.bisimulation.specs.Judge.{meets2a, meets2c, is2a, is2b, is2c}
+use Rattle.bisimulation.specs.Matcher.{smallestEntered}
 use Rattle.bisimulation.specs.Triples.{ahead}
 use Rattle.tables.specs.Table.{maxStates}
 use Rattle.outcomes.specs.declared.Clause.{Clause}
@@ -29,10 +30,6 @@ clauseNumber Match = 3
 abbrev pub failureNumber : Failure → ℕ
 failureNumber Apart = 18
 failureNumber Rank = 19
-
--- The smallest state that some step which passes the test enters, and one more than the greatest end of a step where none passes.
-unfoldable pub smallestEntered : System → (ℕ → Bool) → ℕ
-smallestEntered S test = firstBelow (suc (mostBelow (S .steps) (S .to))) (λ x. anyBelow (S .steps) (λ k. test k && eqb (S .to k) x))
 
 -- Where 2a does not hold: it is met by 2b, with the state t, or else by 2c, with the state x, or else it failed, with 18 where the two are apart and 19
 -- otherwise.
