@@ -9,6 +9,7 @@ pub mod Made
 pub mod RunLaws
 pub mod PlainPaths
 pub mod PathMatchingLaws
+pub mod StandingLaws
 pub mod Equivalences
 pub mod Pigeonhole
 pub mod Sides

@@ -1,13 +1,14 @@
 -- Laws of a path followed on the other system: its entries are a matching path of the path property, cut into blocks that are numbered from 0.
 -- The key idea: the path matcher's cut fits, so its blocks are few and small, and with them the entries and their numbers. Assumes nothing.
-use Prim.Native.Nat.{ℕ, suc, _+_, _*_, _≤_, zero-le}
+use Prim.Native.Nat.{ℕ, zero, suc, _+_, _*_, _≤_, _<_, zero-le}
 use mathlib.Core.Path.{_≡_, refl, subst, sym, ap, ap₂, _∙_}
 use mathlib.Core.Logic.{_≢_}
 use mathlib.Core.List.{List, [], _∷_, _++_, map, flatten}
-use native.Mathlib.Nat.{suc-mul, mul-le-mul-right}
+use native.Mathlib.Nat.{not-suc-le-zero, le-of-suc-le-suc, suc-mul, mul-le-mul-right}
+use native.Mathlib.Numerals.{add-one}
 use native.Mathlib.Omega.{arith}
 use lib.Dec.{T}
-use lib.ListN.{length, length-append, length-map}
+use lib.ListN.{length, getD, length-append, length-map}
 use Rattle.lists.specs.Lists.{All}
 use Rattle.lists.proofs.JoinLaws.{all-append, all-map, all-each, map-append}
 use Rattle.bisimulation.specs.Clauses.{Meets, EveryObligation}
@@ -23,7 +24,7 @@ use Rattle.bisimulation.specs.PathMatching.{
   matchingEntries,
 }
 use Rattle.bisimulation.specs.PathProperty.{IsPath, MatchingPath}
-use Rattle.bisimulation.specs.Systems.{View, flip, Ranks, swap, WellFormed}
+use Rattle.bisimulation.specs.Systems.{System, Step, View, flip, Ranks, swap, WellFormed}
 use Rattle.bisimulation.proofs.PlainPaths.{path-steps, cut-matching}
 use Rattle.bisimulation.proofs.Sound.{matcher-fits}
 
@@ -111,3 +112,38 @@ module _ {v : View} {r : Ranks} {s : ℕ} {p : List ℕ} {t : ℕ} (m : Matched 
   pub matching-numbers : All (λ e. e .block ≤ length p) (matchingEntries v r s p t)
   unfolding matchingEntries
   matching-numbers = rw (← (m .blocks-are′)) (numbers-below 0 (length p) (m .matching .blocks′) (omega (arith, few, m .matching .same .equally-many)))
+
+-- ---- a path by its places
+
+module _ (S : System) where
+  -- a list is a path just where it is not empty, every place is a state, and every two neighbours are a step
+  pub path-i : (l : List ℕ) → 0 < length l → ((i : ℕ) → i < length l → getD l i 0 < S .states)
+      → ((i : ℕ) → i + 1 < length l → Step S (getD l i 0) (getD l (i + 1) 0)) → IsPath S l
+  path-i [] h f g = absurd (not-suc-le-zero h)
+  path-i (s ∷ []) h f g = f 0 h
+  path-i (s ∷ u ∷ p) h f g = (
+    f 0 h,
+    g 0 (omega arith),
+    path-i (u ∷ p) (omega arith) (λ i b. f (suc i) (omega arith)) (λ i b. rw add-one (rw add-one at (g (suc i) (omega arith)))),
+  )
+
+  pub path-e : (l : List ℕ) → IsPath S l
+      → (0 < length l) × ((i : ℕ) → i < length l → getD l i 0 < S .states) × ((i : ℕ) → i + 1 < length l → Step S (getD l i 0) (getD l (i + 1) 0))
+  path-e l a = (some l a, state l a, step l a)
+    where
+      some : (l : List ℕ) → IsPath S l → 0 < length l
+      some [] a = absurd a
+      some (s ∷ p) a = omega arith
+
+      state : (l : List ℕ) → IsPath S l → (i : ℕ) → i < length l → getD l i 0 < S .states
+      state [] a i b = absurd a
+      state (s ∷ []) a zero b = a
+      state (s ∷ []) a (suc i) b = absurd (not-suc-le-zero (le-of-suc-le-suc b))
+      state (s ∷ u ∷ p) a zero b = a .0
+      state (s ∷ u ∷ p) a (suc i) b = state (u ∷ p) (a .2) i (le-of-suc-le-suc b)
+
+      step : (l : List ℕ) → IsPath S l → (i : ℕ) → i + 1 < length l → Step S (getD l i 0) (getD l (i + 1) 0)
+      step [] a i b = absurd a
+      step (s ∷ []) a i b = absurd (omega arith)
+      step (s ∷ u ∷ p) a zero b = a .1
+      step (s ∷ u ∷ p) a (suc i) b = rw add-one (rw add-one at (step (u ∷ p) (a .2) i (omega arith)))
