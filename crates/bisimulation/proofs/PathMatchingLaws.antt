@@ -3,15 +3,18 @@
 use Prim.Native.Nat.{ℕ, zero, suc, _+_, _*_, _≤_, _<_, zero-le}
 use mathlib.Core.Path.{_≡_, refl, subst, sym, ap, ap₂, _∙_}
 use mathlib.Core.Logic.{_≢_}
+use mathlib.Core.Bool.{_&&_, not, cond}
 use mathlib.Core.List.{List, [], _∷_, _++_, map, flatten}
 use native.Mathlib.Nat.{not-suc-le-zero, le-of-suc-le-suc, suc-mul, mul-le-mul-right}
 use native.Mathlib.Numerals.{add-one}
 use native.Mathlib.Omega.{arith}
-use lib.Dec.{T}
+use lib.Dec.{T, eqb}
 use lib.ListN.{length, getD, length-append, length-map}
 use Rattle.lists.specs.Lists.{All}
 use Rattle.lists.proofs.JoinLaws.{all-append, all-map, all-each, map-append}
 use Rattle.bisimulation.specs.Clauses.{Meets, EveryObligation}
+use Rattle.bisimulation.specs.Judge.{meets2a, meets2c, is2a, is2b, is2c}
+use Rattle.bisimulation.specs.Matcher.{smallestStep, moves, nothing, enter, grow, push, choose, matchSteps, matchPath}
 use Rattle.bisimulation.specs.PathMatching.{
   stepsAlong,
   Entry,
@@ -24,7 +27,8 @@ use Rattle.bisimulation.specs.PathMatching.{
   matchingEntries,
 }
 use Rattle.bisimulation.specs.PathProperty.{IsPath, MatchingPath}
-use Rattle.bisimulation.specs.Systems.{System, Step, View, flip, Ranks, swap, WellFormed}
+use Rattle.bisimulation.specs.StepPaths.{Cut}
+use Rattle.bisimulation.specs.Systems.{System, Step, View, flip, Ranks, WellFormed}
 use Rattle.bisimulation.proofs.PlainPaths.{path-steps, cut-matching}
 use Rattle.bisimulation.proofs.Sound.{matcher-fits}
 
@@ -35,12 +39,12 @@ pub record Matched (v : View) (r : Ranks) (s : ℕ) (p : List ℕ) (t : ℕ) : T
   pub blocks-are′ : matching .blocks′ ≡ matchingBlocks v r s p t
 
 -- every path from one of two related states is followed by a matching path
-pub followed-matches : (v : View) (r : Ranks) → WellFormed v → EveryObligation Meets v r → EveryObligation Meets (flip v) (swap r)
+pub followed-matches : (v : View) (r r′ : Ranks) → WellFormed v → EveryObligation Meets v r → EveryObligation Meets (flip v) r′
     → (s : ℕ) (p : List ℕ) (t : ℕ) → T (v .related s t) → IsPath (v .own) (s ∷ p) → Matched v r s p t
 unfolding followed cut-matching
-followed-matches v r w D D′ s p t h a =
+followed-matches v r r′ w D D′ s p t h a =
     record {
-      matching = cut-matching v w h p a (matcher-fits v r w D D′ s t h (stepsAlong (v .own) s p) (path-steps (v .own) p s a .0));
+      matching = cut-matching v w h p a (matcher-fits v r r′ w D D′ s t h (stepsAlong (v .own) s p) (path-steps (v .own) p s a .0));
       blocks-are = refl;
       blocks-are′ = refl;
     }
@@ -147,3 +151,29 @@ module _ (S : System) where
       step (s ∷ []) a i b = absurd (omega arith)
       step (s ∷ u ∷ p) a zero b = a .1
       step (s ∷ u ∷ p) a (suc i) b = rw add-one (rw add-one at (step (u ∷ p) (a .2) i (omega arith)))
+
+-- ---- the own ranks alone tell
+
+-- Ranks with these of the own side.
+abbrev ranksWith : (A C A′ C′ : ℕ → ℕ → ℕ) → Ranks
+ranksWith A C A′ C′ = record { stutter = A; match = C; stutter′ = A′; match′ = C′ }
+
+module _ (v : View) (A C A′ C′ A″ C″ : ℕ → ℕ → ℕ) where
+  same-steps : (N s : ℕ) (J : List ℕ) (t : ℕ) → matchSteps v (ranksWith A C A′ C′) N s J t ≡ matchSteps v (ranksWith A C A″ C″) N s J t
+  unfolding matchSteps is2b is2c
+  same-steps zero s J t = refl
+  same-steps (suc N) s [] t =
+      let k = smallestStep (v .other) (λ i. eqb (v .other .from i) t) in
+      ap (λ x. cond (not (moves (v .own) s) && moves (v .other) t) (push k x) nothing) (same-steps N s [] (v .other .to k))
+  same-steps (suc N) s (j ∷ J) t =
+      let q = ranksWith A C A′ C′ in
+      let k = smallestStep (v .other) (meets2a v j t) in
+      let e = smallestStep (v .other) (meets2c v q j t) in
+      let pick : Cut → Cut → Cut → Cut = λ x y z. choose (is2a v j t) (is2b v q j t) (is2c v q j t) (enter j k x) (grow j y) (push e z) in
+      ap₂ (λ x y. pick x y (matchSteps v q N s (j ∷ J) (v .other .to e))) (same-steps N (v .own .to j) J (v .other .to k)) (same-steps N (v .own .to j) J t)
+      ∙ ap (pick _ _) (same-steps N s (j ∷ J) (v .other .to e))
+
+  -- the path that is followed depends on the own side's ranks alone
+  pub same-followed : (s : ℕ) (p : List ℕ) (t : ℕ) → followed v (ranksWith A C A′ C′) s p t ≡ followed v (ranksWith A C A″ C″) s p t
+  unfolding followed matchPath
+  same-followed s p t = same-steps _ s (stepsAlong (v .own) s p) t

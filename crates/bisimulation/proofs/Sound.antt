@@ -2,7 +2,7 @@
 -- The key idea: the path matcher's own cut fits. A block begins at each 2a. Inside a block only one of 2b and 2c can go on: after a 2b no silent
 -- step leaves t for a state related to the new own state, since it would have given 2a, so 2c is shut; after a 2c the step enters no state
 -- related to the new t, for the same reason, so 2b is shut. So in every block one side has one state only, and on the other the rank falls,
--- which bounds the block by that side's number of states. Stated for one side, from the obligations of both. Assumes nothing.
+-- which bounds the block by that side's number of states. Stated for one side, from the obligations of both, each with ranks of its own. Assumes nothing.
 use Prim.Native.Nat.{ℕ, zero, suc, _+_, _≤_, _<_, zero-le}
 use mathlib.Core.Path.{_≡_, refl, ap}
 use mathlib.Core.Logic.{inl, inr, ⊎-elim}
@@ -111,7 +111,16 @@ module _ (v : View) (w : WellFormed v) where
         terminal = f .terminal;
       }
 
-module _ (v : View) (r : Ranks) (w : WellFormed v) (D : EveryObligation Meets v r) (D′ : EveryObligation Meets (flip v) (swap r)) where
+-- a terminal state s: a step from t is met by 2b of the other side
+pub terminal-2b : (v : View) (r′ : Ranks) → EveryObligation Meets (flip v) r′
+    → (s t : ℕ) → T (v .related s t) → Terminal (v .own) s → (k : ℕ) → k < v .other .steps → v .other .from k ≡ t
+    → T (v .other .silent k) × T (v .related s (v .other .to k)) × (r′ .stutter (v .other .to k) s < r′ .stutter t s)
+terminal-2b v r′ D′ s t h d k l e =
+    ⊎-elim (λ q. absurd (d (q .0) (q .1) (q .2)))
+    (λ c. ⊎-elim (λ b. let q = rw e at b in (q .0 .0, q .0 .1, q .1)) (λ q. absurd (d (q .0) (q .1) (q .2))) c)
+    (D′ k s l (rw e h))
+
+module _ (v : View) (r r′ : Ranks) (w : WellFormed v) (D : EveryObligation Meets v r) (D′ : EveryObligation Meets (flip v) r′) where
   open View v using (own, other, related, serves)
 
   cases : (P : Cut → Type 0) (j t : ℕ) (x y z : Cut) → j < own .steps → T (related (own .from j) t)
@@ -132,14 +141,6 @@ module _ (v : View) (r : Ranks) (w : WellFormed v) (D : EveryObligation Meets v 
 
   not-2a-shut : (j t : ℕ) → (T (is2a v j t) → ⊥) → T (own .silent j) → Shut (own .to j) t
   not-2a-shut j t na q k l e p h = na (is2a-i v j t (k, l, e, w .here .quiet j k q p, h))
-
-  -- a terminal state s: a step from t is met by 2b of the other side
-  pub terminal-2b : (s t : ℕ) → T (related s t) → Terminal own s → (k : ℕ) → k < other .steps → other .from k ≡ t
-      → T (other .silent k) × T (related s (other .to k)) × (r .stutter′ (other .to k) s < r .stutter′ t s)
-  terminal-2b s t h d k l e =
-      ⊎-elim (λ q. absurd (d (q .0) (q .1) (q .2)))
-      (λ c. ⊎-elim (λ b. let q = rw e at b in (q .0 .0, q .0 .1, q .1)) (λ q. absurd (d (q .0) (q .1) (q .2))) c)
-      (D′ k s l (rw e h))
 
   -- it fits, and the first block has one own state, or one of the other's, and few of the opposite
   record Alone (f : ℕ → ℕ) (s : ℕ) (J : List ℕ) (t : ℕ) (x : Cut) : Type 0 where
@@ -178,21 +179,21 @@ module _ (v : View) (r : Ranks) (w : WellFormed v) (D : EveryObligation Meets v 
       }
 
   -- the end of the path: on to a terminal state where s is one
-  tail : (M N s t : ℕ) → lower (other .states) (λ y. r .stutter′ y s) (r .stutter′ t s) < M → M ≤ N → T (related s t)
-      → Alone (λ y. r .stutter′ y s) s [] t (matchSteps v r N s [] t)
+  tail : (M N s t : ℕ) → lower (other .states) (λ y. r′ .stutter y s) (r′ .stutter t s) < M → M ≤ N → T (related s t)
+      → Alone (λ y. r′ .stutter y s) s [] t (matchSteps v r N s [] t)
   unfolding matchSteps
   tail zero N s t g b h = absurd (not-suc-le-zero g)
   tail (suc M) zero s t g b h = absurd (not-suc-le-zero b)
   tail (suc M) (suc N) s t g b h =
-      cond-cases (Alone (λ y. r .stutter′ y s) s [] t) (not (moves own s) && moves other t) _ _
+      cond-cases (Alone (λ y. r′ .stutter y s) s [] t) (not (moves own s) && moves other t) _ _
       (λ m.
       let f : ℕ → Bool = λ i. eqb (other .from i) t in
       let k = smallestStep other f in
       let q = pick-passes other f (unfold moves in and-r (not (moves own s)) (moves other t) m) in
       let e = eqb→eq (other .from k) t (q .1) in
-      let c = terminal-2b s t h (still-terminal own s (T-not (moves own s) (and-l (not (moves own s)) (moves other t) m))) k (q .0) e in
-      let d = lower-falls (other .states) (λ y. r .stutter′ y s) (r .stutter′ t s) (other .to k) (w .there .to< k (q .0)) (c .2) in
-      pushed (λ y. r .stutter′ y s) s [] t k _ h (q .0) e (c .0) (c .2) (tail M N s (other .to k) (omega arith) (omega arith) (c .1)))
+      let c = terminal-2b v r′ D′ s t h (still-terminal own s (T-not (moves own s) (and-l (not (moves own s)) (moves other t) m))) k (q .0) e in
+      let d = lower-falls (other .states) (λ y. r′ .stutter y s) (r′ .stutter t s) (other .to k) (w .there .to< k (q .0)) (c .2) in
+      pushed (λ y. r′ .stutter y s) s [] t k _ h (q .0) e (c .0) (c .2) (tail M N s (other .to k) (omega arith) (omega arith) (c .1)))
       (λ m. record {
         fits = nothing-fits v w s t h
             (λ d. still-terminal other t (λ z. m (and-i (not (moves own s)) (moves other t) (not-T (moves own s) (λ y. moves-not-terminal own s y d)) z)));
@@ -247,14 +248,14 @@ module _ (v : View) (r : Ranks) (w : WellFormed v) (D : EveryObligation Meets v 
   fresh-end : (s : ℕ) → Fresh s []
   fresh-end s N t b h =
       tail (suc (other .states)) N s t
-      (omega (arith, lower-bound (other .states) (λ y. r .stutter′ y s) t (w .there .related< t s h)))
+      (omega (arith, lower-bound (other .states) (λ y. r′ .stutter y s) t (w .there .related< t s h)))
       b h .fits
 
   shut-end : (s : ℕ) → Shutting s []
   unfolding matchSteps
   shut-end s zero t b h z = absurd (not-suc-le-zero b)
   shut-end s (suc N) t b h z =
-      let stuck : Terminal own s → Terminal other t = λ d k l e. (let c = terminal-2b s t h d k l e in z k l e (c .0) (c .1)) in
+      let stuck : Terminal own s → Terminal other t = λ d k l e. (let c = terminal-2b v r′ D′ s t h d k l e in z k l e (c .0) (c .1)) in
       cond-cases (Facing s [] t) (not (moves own s) && moves other t) _ _
       (λ m. absurd (moves-not-terminal other t
       (and-r (not (moves own s)) (moves other t) m)
@@ -300,6 +301,6 @@ sound v r w h =
       initial = c .initial;
       initial′ = c .initial′;
       labels = c .labels;
-      own-paths = λ s t p J q. (matchPath v r s J t, matcher-fits v r w (c .own-met) (c .other-met) s t p J q);
-      other-paths = λ t s p J q. (matchPath (flip v) (swap r) t J s, matcher-fits (flip v) (swap r) (flip-formed v w) (c .other-met) (c .own-met) t s p J q);
+      own-paths = λ s t p J q. (matchPath v r s J t, matcher-fits v r (swap r) w (c .own-met) (c .other-met) s t p J q);
+      other-paths = λ t s p J q. (matchPath (flip v) (swap r) t J s, matcher-fits (flip v) (swap r) r (flip-formed v w) (c .other-met) (c .own-met) t s p J q);
     }

@@ -19,7 +19,7 @@ use Rattle.bisimulation.specs.Matcher.{smallestEntered, smallestStep, mo
 use Rattle.bisimulation.specs.PathMatching.{stepsAlong, Entry, inBlock, numberedFrom, followed, givenEntries, matchingEntries}
 use Rattle.bisimulation.specs.PathProperty.{IsPath}
 use Rattle.bisimulation.specs.StepPaths.{Cut}
-use Rattle.bisimulation.specs.Systems.{System, View, flip, Ranks, swap, WellFormed}
+use Rattle.bisimulation.specs.Systems.{System, View, flip, Ranks, WellFormed}
 use Rattle.bisimulation.specs.Triples.{stepOf}
 use Rattle.bisimulation.proofs.ClauseLaws.{pick-passes, picked-2a, picked-2c, is2b-e}
 use Rattle.bisimulation.proofs.PathMatchingLaws.{Matched, followed-matches, path-e}
@@ -69,10 +69,10 @@ module _ (v : View) where
   abbrev matchingAfter : ℕ → Cut → List Entry
   matchingAfter n x = inBlock n (map (v .other .to) (x .first′)) ++ numberedFrom (suc n) (map (map (v .other .to)) (x .later′))
 
-  -- More moves than these are enough from s and t, with the steps J to go.
-  abbrev needed : Ranks → ℕ → List ℕ → ℕ → ℕ
-  needed r s [] t = lower (v .other .states) (λ y. r .stutter′ y s) (r .stutter′ t s)
-  needed r s (j ∷ J) t = lower (v .other .states) (r .match j) (r .match j t) + movesNeeded (v .other .states) J
+  -- More moves than these are enough from s and t, with the steps J to go; r′ are the other side's ranks.
+  abbrev needed : (r r′ : Ranks) → ℕ → List ℕ → ℕ → ℕ
+  needed r r′ s [] t = lower (v .other .states) (λ y. r′ .stutter y s) (r′ .stutter t s)
+  needed r r′ s (j ∷ J) t = lower (v .other .states) (r .match j) (r .match j t) + movesNeeded (v .other .states) J
 
 -- The loop stands at the place i of l and at t, in the block n, and m of the matching entries are written.
 pub record Standing (v : View) (r : Ranks) (l : List ℕ) (t₀ i n t m : ℕ) : Type 0 where
@@ -83,14 +83,16 @@ pub record Standing (v : View) (r : Ranks) (l : List ℕ) (t₀ i n t m : ℕ) :
   -- so many are written
   pub room : m ≤ length (matchingAlong v r l t₀)
   pub given-room : i + 1 ≤ length (givenAlong v r l t₀)
+  -- the other side's obligations are met, with whatever ranks
+  ranks′ : Ranks
+  met′ : EveryObligation Meets (flip v) ranks′
   -- the matcher has one move more than these left, which is enough, and what it gives is to come
   left : ℕ
-  enough : needed v r (getD l i 0) (stepsAt (v .own) l i) t ≤ left
+  enough : needed v r ranks′ (getD l i 0) (stepsAt (v .own) l i) t ≤ left
   given : drop (i + 1) (givenAlong v r l t₀) ≡ givenAfter v n (matchSteps v r (suc left) (getD l i 0) (stepsAt (v .own) l i) t)
   matching : drop m (matchingAlong v r l t₀) ≡ matchingAfter v n (matchSteps v r (suc left) (getD l i 0) (stepsAt (v .own) l i) t)
 
-module _ (v : View) (r : Ranks) (w : WellFormed v) (D : EveryObligation Meets v r) (D′ : EveryObligation Meets (flip v) (swap r)) (l : List ℕ)
-    (a : IsPath (v .own) l) (t₀ : ℕ) where
+module _ (v : View) (r : Ranks) (w : WellFormed v) (l : List ℕ) (a : IsPath (v .own) l) (t₀ : ℕ) where
   open View v using (own, other, related)
 
   abbrev G : List Entry
@@ -104,23 +106,25 @@ module _ (v : View) (r : Ranks) (w : WellFormed v) (D : EveryObligation Meets v 
   stepAt i = stepOf own (getD l i 0) (getD l (i + 1) 0)
 
   -- as many moves as the matcher begins with are enough from every related pair
-  needed-few : (s : ℕ) (J : List ℕ) (t : ℕ) → T (related s t) → needed v r s J t < movesNeeded (other .states) J
-  needed-few s [] t h = omega (arith, lower-bound (other .states) (λ y. r .stutter′ y s) t (w .there .related< t s h))
-  needed-few s (j ∷ J) t h = omega (arith, lower-bound (other .states) (r .match j) t (w .there .related< t s h))
+  needed-few : (r′ : Ranks) (s : ℕ) (J : List ℕ) (t : ℕ) → T (related s t) → needed v r r′ s J t < movesNeeded (other .states) J
+  needed-few r′ s [] t h = omega (arith, lower-bound (other .states) (λ y. r′ .stutter y s) t (w .there .related< t s h))
+  needed-few r′ s (j ∷ J) t h = omega (arith, lower-bound (other .states) (r .match j) t (w .there .related< t s h))
 
-  standing-i : (N : ℕ) {J : List ℕ} {i n t m : ℕ} → i < length l → T (related (getD l i 0) t) → n ≤ i → m ≤ length W → i + 1 ≤ length G
-      → stepsAt own l i ≡ J → needed v r (getD l i 0) J t < N
+  standing-i : (r′ : Ranks) → EveryObligation Meets (flip v) r′ → (N : ℕ) {J : List ℕ} {i n t m : ℕ} → i < length l → T (related (getD l i 0) t) → n ≤ i → m ≤ length W → i + 1 ≤ length G
+      → stepsAt own l i ≡ J → needed v r r′ (getD l i 0) J t < N
       → drop (i + 1) G ≡ givenAfter v n (matchSteps v r N (getD l i 0) J t)
       → drop m W ≡ matchingAfter v n (matchSteps v r N (getD l i 0) J t)
       → Standing v r l t₀ i n t m
-  standing-i zero b h k q p e c x y = absurd (not-suc-le-zero c)
-  standing-i (suc N) b h k q p e c x y =
+  standing-i r′ D′ zero b h k q p e c x y = absurd (not-suc-le-zero c)
+  standing-i r′ D′ (suc N) b h k q p e c x y =
       record {
         inside = b;
         related = h;
         low = k;
         room = q;
         given-room = p;
+        ranks′ = r′;
+        met′ = D′;
         left = N;
         enough = rw e (le-of-suc-le-suc c);
         given = rw e x;
@@ -128,19 +132,19 @@ module _ (v : View) (r : Ranks) (w : WellFormed v) (D : EveryObligation Meets v 
       }
 
   -- at the start one entry of each is written, in the block 0
-  pub standing-start : T (related (getD l 0 0) t₀)
+  pub standing-start : (r′ : Ranks) → EveryObligation Meets (flip v) r′ → T (related (getD l 0 0) t₀)
       → Standing v r l t₀ 0 0 t₀ 1 × At G 0 (record { state = getD l 0 0; block = 0 }) × At W 0 (record { state = t₀; block = 0 })
   unfolding givenEntries matchingEntries numberedFrom followed matchPath
-  standing-start h = (
-    standing-i (movesNeeded (other .states) (stepsAt own l 0)) (path-e own l a .0) h zero-le (omega arith) (omega arith) refl
-        (needed-few (getD l 0 0) (stepsAt own l 0) t₀ h) refl refl,
+  standing-start r′ D′ h = (
+    standing-i r′ D′ (movesNeeded (other .states) (stepsAt own l 0)) (path-e own l a .0) h zero-le (omega arith) (omega arith) refl
+        (needed-few r′ (getD l 0 0) (stepsAt own l 0) t₀ h) refl refl,
     record { below = omega arith; more = refl },
     record { below = omega arith; more = refl },
   )
 
   -- the whole path is matched
-  pub path-matched : T (related (getD l 0 0) t₀) → Matched v r (getD l 0 0) (drop 1 l) t₀
-  path-matched h = followed-matches v r w D D′ (getD l 0 0) (drop 1 l) t₀ h (whole l a)
+  pub path-matched : (r′ : Ranks) → EveryObligation Meets v r → EveryObligation Meets (flip v) r′ → T (related (getD l 0 0) t₀) → Matched v r (getD l 0 0) (drop 1 l) t₀
+  path-matched r′ D D′ h = followed-matches v r r′ w D D′ (getD l 0 0) (drop 1 l) t₀ h (whole l a)
     where
       whole : (l : List ℕ) → IsPath own l → IsPath own (getD l 0 0 ∷ drop 1 l)
       whole [] a = absurd a
@@ -182,8 +186,8 @@ module _ (v : View) (r : Ranks) (w : WellFormed v) (D : EveryObligation Meets v 
           let y = next-at G (i + 1) _ _ (e .0) in
           let z = next-at W m _ _ (e .1) in
           rw (add-one n) (
-            standing-i (g .left) b h (omega (arith, g .low)) (omega (arith, z .0 .below)) (omega (arith, y .0 .below)) refl
-                (omega (arith, needed-few (getD l (i + 1) 0) (stepsAt own l (i + 1)) _ h, enough-next)) (y .1) (z .1),
+            standing-i (g .ranks′) (g .met′) (g .left) b h (omega (arith, g .low)) (omega (arith, z .0 .below)) (omega (arith, y .0 .below)) refl
+                (omega (arith, needed-few (g .ranks′) (getD l (i + 1) 0) (stepsAt own l (i + 1)) _ h, enough-next)) (y .1) (z .1),
             rw u at (y .0),
             rw x at (z .0),
           )
@@ -200,8 +204,8 @@ module _ (v : View) (r : Ranks) (w : WellFormed v) (D : EveryObligation Meets v 
             let e = moved next-step (cond-false (is2a v j t) _ _ na ∙ cond-true (is2b v r j t) _ _ c
             ∙ ap (λ x. grow j (matchSteps v r (g .left) x (stepsAt own l (i + 1)) t)) u) in
             let y = next-at G (i + 1) _ _ (e .0) in (
-              standing-i (g .left) b h (omega (arith, g .low)) (g .room) (omega (arith, y .0 .below)) refl
-                  (omega (arith, needed-few (getD l (i + 1) 0) (stepsAt own l (i + 1)) _ h, enough-next)) (y .1) (e .1),
+              standing-i (g .ranks′) (g .met′) (g .left) b h (omega (arith, g .low)) (g .room) (omega (arith, y .0 .below)) refl
+                  (omega (arith, needed-few (g .ranks′) (getD l (i + 1) 0) (stepsAt own l (i + 1)) _ h, enough-next)) (y .1) (e .1),
               rw u at (y .0),
             )
 
@@ -219,7 +223,7 @@ module _ (v : View) (r : Ranks) (w : WellFormed v) (D : EveryObligation Meets v 
             let e = moved next-step (cond-false (is2a v j t) _ _ na ∙ cond-false (is2b v r j t) _ _ nb ∙ cond-true (is2c v r j t) _ _ c
             ∙ ap (λ y. push k (matchSteps v r (g .left) (getD l i 0) (j ∷ stepsAt own l (i + 1)) y)) x) in
             let z = next-at W m _ _ (e .1) in (
-              standing-i (g .left) (g .inside) h (g .low) (omega (arith, z .0 .below)) (g .given-room) next-step (omega (arith, d, enough-next)) (e .0) (z .1),
+              standing-i (g .ranks′) (g .met′) (g .left) (g .inside) h (g .low) (omega (arith, z .0 .below)) (g .given-room) next-step (omega (arith, d, enough-next)) (e .0) (z .1),
               rw x at (z .0),
             )
 
@@ -237,13 +241,13 @@ module _ (v : View) (r : Ranks) (w : WellFormed v) (D : EveryObligation Meets v 
           let s = getD l i 0 in
           let q = pick-passes other (λ k. eqb (other .from k) t) (unfold moves in c) in
           let k = smallestStep other (λ k. eqb (other .from k) t) in
-          let p = terminal-2b v r w D D′ s t (g .related) (still-terminal own s f) k (q .0) (eqb→eq _ _ (q .1)) in
+          let p = terminal-2b v (g .ranks′) (g .met′) s t (g .related) (still-terminal own s f) k (q .0) (eqb→eq _ _ (q .1)) in
           let h = subst (λ y. T (related s y)) (q .2) (p .1) in
-          let d = rw (q .2) at (lower-falls (other .states) (λ y. r .stutter′ y s) (r .stutter′ t s) (other .to k) (w .there .to< k (q .0)) (p .2)) in
+          let d = rw (q .2) at (lower-falls (other .states) (λ y. g .ranks′ .stutter y s) (g .ranks′ .stutter t s) (other .to k) (w .there .to< k (q .0)) (p .2)) in
           let e = moved ended (cond-true (not (moves own s) && moves other t) _ _ (and-i (not (moves own s)) (moves other t) (not-T (moves own s) f) c)
           ∙ ap (λ y. push k (matchSteps v r (g .left) s [] y)) (q .2)) in
           let z = next-at W m _ _ (e .1) in (
-            standing-i (g .left) (g .inside) h (g .low) (omega (arith, z .0 .below)) (g .given-room) ended
+            standing-i (g .ranks′) (g .met′) (g .left) (g .inside) h (g .low) (omega (arith, z .0 .below)) (g .given-room) ended
                 (omega (arith, d, rw ended at (g .enough))) (e .0) (z .1),
             rw (q .2) at (z .0),
           )
