@@ -1,5 +1,5 @@
 -- Inner: the path and what matches it, as they are read off two sides and a certificate; and what is known of them where the judge accepts.
-use Prim.Native.Nat.{ℕ, _≤_}
+use Prim.Native.Nat.{ℕ, _+_, _*_, _≤_}
 use mathlib.Core.Bool.{cond}
 use mathlib.Core.List.{List, [], _∷_}
 use lib.Dec.{T, eqb}
@@ -8,18 +8,14 @@ use Rattle.lists.specs.Numbers.{byteAt}
 use Rattle.bisimulation.specs.Clauses.{Meets, EveryObligation}
 use Rattle.bisimulation.specs.PathMatching.{Entry}
 use Rattle.bisimulation.specs.PathProperty.{IsPath}
-use Rattle.bisimulation.specs.Systems.{Ranks, WellFormed, flip, swap}
+use Rattle.bisimulation.specs.Systems.{Ranks, WellFormed, flip}
 use Rattle.answers.specs.Verdicts.{Verdict}
 use Rattle.tables.specs.Table.{maxSteps}
-use Rattle.certificates.specs.declared.Sizes.{Sizes}
-use Rattle.certificates.specs.CertificateModel.{ranksOf}
 use Rattle.sides.specs.Side.{systemIn, stepsIn}
 use Rattle.sides.specs.Views.{viewIn}
 use Rattle.sides.specs.Built.{Linked}
 use Rattle.obligations.specs.declared.Run.{Run}
-use Rattle.obligations.specs.OnSides.{leftRun, rightRun}
-use Rattle.obligations.proofs.OnSidesLaws.{RanksAt}
-use Rattle.path_matcher.specs.Following.{ranksFrom, givenAlong, matchedAlong, matchVerdict}
+use Rattle.path_matcher.specs.Following.{givenAlong, matchedAlong, matchVerdict}
 
 -- The first of the steps that enters u, and 256 where none does.
 unfoldable pub firstTo : (side : List ℕ) → ℕ → List ℕ → ℕ
@@ -30,32 +26,35 @@ firstTo side u (j ∷ js) = cond (eqb (systemIn side .to j) u) j (firstTo side u
 unfoldable pub stepBetween : (side : List ℕ) → ℕ → ℕ → ℕ
 stepBetween side s u = firstTo side u (stepsIn side s)
 
--- Where the ranks of the path's side begin.
-abbrev pub runFrom : ℕ → Sizes → Run
-runFrom side z = cond (eqb side 0) (leftRun z) (rightRun z)
+-- Our side's ranks, which stand in the certificate where the run begins. The other side's are not looked at, and stand as 0.
+abbrev pub ranksIn : (certificate : List ℕ) → Run → Ranks
+ranksIn certificate run =
+    record {
+      stutter = λ s t. byteAt certificate (run .stutter + (s * run .states + t));
+      match = λ j t. byteAt certificate (run .matches + (j * run .states + t));
+      stutter′ = λ t s. 0;
+      match′ = λ k s. 0;
+    }
 
--- The ranks that stand in the certificate, as the path's side sees them.
-abbrev pub ranksIn : (certificate : List ℕ) → Sizes → (side : ℕ) → Ranks
-ranksIn certificate z side = ranksFrom side (ranksOf z certificate)
-
-module _ (ours theirs certificate : List ℕ) (z : Sizes) (side : ℕ) where
+module _ (ours theirs certificate : List ℕ) (run : Run) where
   abbrev pub givenIn : (path : List ℕ) → (start : ℕ) → List Entry
-  givenIn = givenAlong (viewIn ours theirs) (ranksIn certificate z side)
+  givenIn = givenAlong (viewIn ours theirs) (ranksIn certificate run)
 
   abbrev pub matchedIn : (path : List ℕ) → (start : ℕ) → List Entry
-  matchedIn = matchedAlong (viewIn ours theirs) (ranksIn certificate z side)
+  matchedIn = matchedAlong (viewIn ours theirs) (ranksIn certificate run)
 
+  -- The side's number, which is known to be one, is no part of it.
   abbrev pub verdictIn : (start : ℕ) → (path states blocks : List ℕ) → Verdict ℕ
-  verdictIn = matchVerdict (viewIn ours theirs) (ranksIn certificate z side) side
+  verdictIn = matchVerdict (viewIn ours theirs) (ranksIn certificate run) 0
 
-  -- The sides are linked, the ranks stand where they should, and every obligation of both is met.
+  -- The sides are linked, and every obligation of both is met, of theirs with whatever ranks.
   pub record AllMet : Type 0 where
     pub linked : Linked ours
     pub linked′ : Linked theirs
     pub formed : WellFormed (viewIn ours theirs)
-    pub ranks-at : RanksAt certificate (runFrom side z) (ranksIn certificate z side)
-    pub met : EveryObligation Meets (viewIn ours theirs) (ranksIn certificate z side)
-    pub met′ : EveryObligation Meets (flip (viewIn ours theirs)) (swap (ranksIn certificate z side))
+    pub met : EveryObligation Meets (viewIn ours theirs) (ranksIn certificate run)
+    pub ranks′ : Ranks
+    pub met′ : EveryObligation Meets (flip (viewIn ours theirs)) ranks′
 
 -- The bytes are a path of our table, and its first state is related to the start.
 pub record StartsAt (ours theirs path : List ℕ) (start : ℕ) : Type 0 where

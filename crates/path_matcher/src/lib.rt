@@ -1,7 +1,6 @@
 // A run followed on the other model. It goes by the judge's clauses in order, 2a, then 2b, then 2c, the smallest state each time; a new block begins at each
 // 2a. What it finds is kept until both outputs are known to have room, so that a refusal leaves them as they were.
 use answers::Answer;
-use certificates::Sizes;
 use certified_sides::sides_of;
 use checker::judge;
 use lists::byte;
@@ -32,7 +31,7 @@ ghost use Rattle.sides.specs.Side.{systemIn, enteredFrom};
 ghost use Rattle.sides.specs.Built.{Linked};
 ghost use Rattle.checker.specs.Judge.{judgeAnswer};
 ghost use Rattle.path_matcher.specs.Following.{entryBytes, blockBytes, wrongPath, followAnswer, followStates, followBlocks};
-ghost use Rattle.path_matcher.specs.OnSides.{stepBetween, runFrom, givenIn, matchedIn, verdictIn, AllMet, StartsAt};
+ghost use Rattle.path_matcher.specs.OnSides.{stepBetween, givenIn, matchedIn, verdictIn, AllMet, StartsAt};
 
 // The most states that are given, and the most that are written: as many as a table has in each block.
 const MOST_GIVEN: usize = 256;
@@ -128,16 +127,6 @@ fn put_entry(state: usize, block: usize, part: &mut [u8])
 
 // ---- the matching path
 
-// Where the ranks of the path's side begin.
-fn run_from(side: usize, sizes: Sizes) -> Run
-    ensures { λ r. ⌜ r ≡ runFrom side sizes ⌝ }
-{
-    if side == 0 {
-        return Run::left(sizes);
-    }
-    Run::right(sizes)
-}
-
 // The smallest state that a step from s enters, and 64 where no step leaves s.
 fn smallest_after(side: &Side, s: usize) -> usize
     ensures { λ r. ⌜ r ≡ firstBit (enteredFrom (now (side .entry)) s) ⌝ }
@@ -152,25 +141,23 @@ fn follow_path(
     ours: &Side,
     theirs: &Side,
     certificate: &[u8],
-    sizes: Sizes,
-    side: usize,
+    run: Run,
     start: usize,
     path: &[u8],
     found: &mut [u8; 3 * MOST_STATES],
     numbers: &mut [u8; 2 * MOST_GIVEN],
 ) -> usize
-    requires { ⌜ AllMet (now ours) (now theirs) (now certificate) sizes side ⌝ }
+    requires { ⌜ AllMet (now ours) (now theirs) (now certificate) run ⌝ }
     requires { ⌜ StartsAt (now ours) (now theirs) (now path) start ⌝ }
-    ensures count { λ r. ⌜ r ≡ length (matchedIn (now (ours .entry)) (now (theirs .entry)) (now (certificate .entry)) sizes side (now (path .entry)) start) ⌝ }
+    ensures count { λ r. ⌜ r ≡ length (matchedIn (now (ours .entry)) (now (theirs .entry)) (now (certificate .entry)) run (now (path .entry)) start) ⌝ }
     ensures small { λ r. ⌜ r ≤ 16384 ⌝ }
     ensures states { λ _. ⌜ now (found .exit) ≡ putFront (flatMap entryBytes
-        (matchedIn (now (ours .entry)) (now (theirs .entry)) (now (certificate .entry)) sizes side (now (path .entry)) start)) (now (found .entry)) ⌝ }
+        (matchedIn (now (ours .entry)) (now (theirs .entry)) (now (certificate .entry)) run (now (path .entry)) start)) (now (found .entry)) ⌝ }
     ensures blocks { λ _. ⌜ now (numbers .exit) ≡ putFront (flatMap blockBytes
-        (givenIn (now (ours .entry)) (now (theirs .entry)) (now (certificate .entry)) sizes side (now (path .entry)) start)) (now (numbers .entry)) ⌝ }
+        (givenIn (now (ours .entry)) (now (theirs .entry)) (now (certificate .entry)) run (now (path .entry)) start)) (now (numbers .entry)) ⌝ }
 {
     let matching: &mut [u8] = found;
     let blocks: &mut [u8] = numbers;
-    let run = run_from(side, sizes);
     put_entry(start, 0, &mut matching[0..3]);
     put_number(0, &mut blocks[0..2]);
     let last = path.len() - 1;
@@ -226,27 +213,25 @@ fn follow_sides(
     ours: &Side,
     theirs: &Side,
     certificate: &[u8],
-    sizes: Sizes,
-    side: usize,
+    run: Run,
     start: usize,
     path: &[u8],
     states: &mut [u8],
     blocks: &mut [u8],
 ) -> Answer
-    requires { ⌜ AllMet (now ours) (now theirs) (now certificate) sizes side ⌝ }
-    requires { ⌜ side < 2 ⌝ }
+    requires { ⌜ AllMet (now ours) (now theirs) (now certificate) run ⌝ }
     ensures value { λ r. ⌜ r ≡ answerOf (sixNumbers 0 0)
-        (verdictIn (now (ours .entry)) (now (theirs .entry)) (now (certificate .entry)) sizes side start (now (path .entry)) (now (states .entry))
+        (verdictIn (now (ours .entry)) (now (theirs .entry)) (now (certificate .entry)) run start (now (path .entry)) (now (states .entry))
         (now (blocks .entry))) ⌝ }
     ensures states { λ _. ⌜ now (states .exit) ≡ outputAfter
-        (verdictIn (now (ours .entry)) (now (theirs .entry)) (now (certificate .entry)) sizes side start (now (path .entry)) (now (states .entry))
+        (verdictIn (now (ours .entry)) (now (theirs .entry)) (now (certificate .entry)) run start (now (path .entry)) (now (states .entry))
         (now (blocks .entry)))
-        (flatMap entryBytes (matchedIn (now (ours .entry)) (now (theirs .entry)) (now (certificate .entry)) sizes side (now (path .entry)) start))
+        (flatMap entryBytes (matchedIn (now (ours .entry)) (now (theirs .entry)) (now (certificate .entry)) run (now (path .entry)) start))
         (now (states .entry)) ⌝ }
     ensures blocks { λ _. ⌜ now (blocks .exit) ≡ outputAfter
-        (verdictIn (now (ours .entry)) (now (theirs .entry)) (now (certificate .entry)) sizes side start (now (path .entry)) (now (states .entry))
+        (verdictIn (now (ours .entry)) (now (theirs .entry)) (now (certificate .entry)) run start (now (path .entry)) (now (states .entry))
         (now (blocks .entry)))
-        (flatMap blockBytes (givenIn (now (ours .entry)) (now (theirs .entry)) (now (certificate .entry)) sizes side (now (path .entry)) start))
+        (flatMap blockBytes (givenIn (now (ours .entry)) (now (theirs .entry)) (now (certificate .entry)) run (now (path .entry)) start))
         (now (blocks .entry)) ⌝ }
 {
     if is_no_path(ours, path) {
@@ -262,8 +247,7 @@ fn follow_sides(
         ours,
         theirs,
         certificate,
-        sizes,
-        side,
+        run,
         start,
         path,
         &mut found,
@@ -315,8 +299,7 @@ fn follow_accepted(
             &ours,
             &theirs,
             certificate,
-            sizes,
-            0,
+            Run::left(sizes),
             start,
             path,
             states,
@@ -328,8 +311,7 @@ fn follow_accepted(
             &theirs,
             &ours,
             certificate,
-            sizes,
-            1,
+            Run::right(sizes),
             start,
             path,
             states,
