@@ -55,7 +55,7 @@ followed-matches v r r′ w D D′ s p t h a =
 numbered-states : (n : ℕ) (bs : List (List ℕ)) → map (λ e. e .state) (numberedFrom n bs) ≡ flatten bs
 unfolding numberedFrom flatten
 numbered-states n [] = refl
-numbered-states n (b ∷ bs) = map-append (λ (e : Entry). e .state) (inBlock n b) (numberedFrom (suc n) bs) ∙ ap₂ _++_ (states n b) (numbered-states (suc n) bs)
+numbered-states n (b ∷ bs) = map-append (λ (e : Entry). e .state) (inBlock n b) _ ∙ ap₂ _++_ (states n b) (numbered-states _ bs)
   where
     states : (n : ℕ) (b : List ℕ) → map (λ e. e .state) (inBlock n b) ≡ b
     states n [] = refl
@@ -65,8 +65,7 @@ numbers-below : (n m : ℕ) (bs : List (List ℕ)) → n + length bs ≤ suc m �
 unfolding numberedFrom
 numbers-below n m [] h = tt
 numbers-below n m (b ∷ bs) h =
-    all-append _ (inBlock n b) (numberedFrom (suc n) bs) (all-map (λ (e : Entry). e .block ≤ m) _ b (all-each _ (λ x. omega arith) b))
-    (numbers-below (suc n) m bs (omega arith))
+    all-append _ (inBlock n b) _ (all-map (λ (e : Entry). e .block ≤ m) _ b (all-each _ (λ x. omega arith) b)) (numbers-below _ m bs (omega arith))
 
 -- as many blocks as states at most, and as many states as blocks times the size of each
 blocks-few : (bs : List (List ℕ)) → All (λ b. b ≢ []) bs → length bs ≤ length (flatten bs)

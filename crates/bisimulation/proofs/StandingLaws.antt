@@ -16,7 +16,7 @@ use Rattle.lists.proofs.BoolLaws.{and-l, and-r, and-i, cond-true, cond-false}
 use Rattle.bisimulation.specs.Clauses.{Meets, EveryObligation}
 use Rattle.bisimulation.specs.Judge.{meets2a, meets2c, is2a, is2b, is2c}
 use Rattle.bisimulation.specs.Matcher.{smallestEntered, smallestStep, moves, enter, grow, push, matchSteps, movesNeeded, matchPath}
-use Rattle.bisimulation.specs.PathMatching.{stepsAlong, Entry, inBlock, numberedFrom, followed, givenEntries, matchingEntries}
+use Rattle.bisimulation.specs.PathMatching.{stepsAlong, Entry, numberedFrom, followed, givenEntries, matchingEntries}
 use Rattle.bisimulation.specs.PathProperty.{IsPath}
 use Rattle.bisimulation.specs.StepPaths.{Cut}
 use Rattle.bisimulation.specs.Systems.{System, View, flip, Ranks, WellFormed}
@@ -64,10 +64,10 @@ stepsAt S l i = stepsAlong S (getD l i 0) (drop (i + 1) l)
 module _ (v : View) where
   -- The entries that a cut adds, given and matching, where the states before it stand in the block n.
   abbrev givenAfter : ℕ → Cut → List Entry
-  givenAfter n x = inBlock n (map (v .own .to) (x .first)) ++ numberedFrom (suc n) (map (map (v .own .to)) (x .later))
+  givenAfter n x = numberedFrom n (map (v .own .to) (x .first) ∷ map (map (v .own .to)) (x .later))
 
   abbrev matchingAfter : ℕ → Cut → List Entry
-  matchingAfter n x = inBlock n (map (v .other .to) (x .first′)) ++ numberedFrom (suc n) (map (map (v .other .to)) (x .later′))
+  matchingAfter n x = numberedFrom n (map (v .other .to) (x .first′) ∷ map (map (v .other .to)) (x .later′))
 
   -- More moves than these are enough from s and t, with the steps J to go; r′ are the other side's ranks.
   abbrev needed : (r r′ : Ranks) → ℕ → List ℕ → ℕ → ℕ
