@@ -1,7 +1,7 @@
 -- Laws of a path followed on the other system: its entries are a matching path of the path property, cut into blocks that are numbered from 0.
 -- The key idea: the path matcher's cut fits, so its blocks are few and small, and with them the entries and their numbers. Assumes nothing.
 use Prim.Native.Nat.{ℕ, zero, suc, _+_, _*_, _≤_, _<_, zero-le}
-use mathlib.Core.Path.{_≡_, refl, subst, sym, ap, ap₂, _∙_}
+use mathlib.Core.Path.{_≡_, refl, sym, ap, ap₂, _∙_}
 use mathlib.Core.Logic.{_≢_}
 use mathlib.Core.Bool.{_&&_, not, cond}
 use mathlib.Core.List.{List, [], _∷_, _++_, map, flatten}
@@ -61,6 +61,7 @@ numbered-states n (b ∷ bs) = map-append (λ (e : Entry). e .state) (inBlock n 
     states n [] = refl
     states n (x ∷ b) = ap (λ l. x ∷ l) (states n b)
 
+-- the numbers run from n on, one for each block
 numbers-below : (n m : ℕ) (bs : List (List ℕ)) → n + length bs ≤ suc m → All (λ e. e .block ≤ m) (numberedFrom n bs)
 unfolding numberedFrom
 numbers-below n m [] h = tt
@@ -96,7 +97,7 @@ module _ {v : View} {r : Ranks} {s : ℕ} {p : List ℕ} {t : ℕ} (m : Matched 
   given-length = sym (length-map (givenEntries v r s p t) (λ e. e .state)) ∙ ap length given-states
 
   few : length (m .matching .blocks) ≤ suc (length p)
-  few = subst (λ l. length (m .matching .blocks) ≤ length l) (m .matching .cut) (blocks-few (m .matching .blocks) (m .matching .same .none-empty))
+  few = omega (arith, blocks-few (m .matching .blocks) (m .matching .same .none-empty), ap length (m .matching .cut))
 
   pub matching-most : length (matchingEntries v r s p t) ≤ suc (length p) * v .other .states
   matching-most =
