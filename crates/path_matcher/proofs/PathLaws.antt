@@ -27,14 +27,14 @@ use Rattle.path_matcher.proofs.FollowCauseLaws.{has-step-decides, path-
 
 -- ---- the walk to the step between two states
 
-module _ (side : List ℕ) (s u : ℕ) where
+module _ (side : List ℕ) (u : ℕ) where
   -- What is found from step j on.
   abbrev pub foundFrom : ℕ → ℕ
   foundFrom j = firstTo side u (linkedFrom side 256 j)
 
-  pub between-start : {j : ℕ} → j ≡ firstStep side s → stepBetween side s u ≡ foundFrom j
+  pub between-start : (s : ℕ) {j : ℕ} → j ≡ firstStep side s → stepBetween side s u ≡ foundFrom j
   unfolding stepBetween stepsIn
-  between-start e = ap foundFrom (sym e)
+  between-start s e = ap foundFrom (sym e)
 
   pub between-here : (j : ℕ) → j < 256 → systemIn side .to j ≡ u → foundFrom j ≡ j
   unfolding firstTo

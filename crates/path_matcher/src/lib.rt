@@ -19,24 +19,33 @@ use sides::states;
 use sides::to;
 use tables::Head;
 ghost use mathlib.Core.Path.{_≡_};
-ghost use mathlib.Core.List.{flatMap};
-ghost use Prim.Native.Nat.{_*_, _≤_, _<_};
-ghost use lib.ListN.{length};
-ghost use Rattle.lists.specs.Lists.{putFront};
-ghost use Rattle.lists.specs.Numbers.{bigBytes};
+ghost use mathlib.Core.List.{_++_, flatMap};
+ghost use Prim.Native.Nat.{_+_, _*_, _≤_, _<_};
+ghost use lib.ListN.{length, take, drop};
+ghost use Rattle.lists.specs.Numbers.{byteAt, bigBytes};
 ghost use Rattle.answers.specs.Numbers.{sixNumbers};
 ghost use Rattle.answers.specs.Verdicts.{answerOf, outputAfter};
 ghost use Rattle.words.specs.Bits.{firstBit};
 ghost use Rattle.sides.specs.Side.{systemIn, enteredFrom};
 ghost use Rattle.sides.specs.Built.{Linked};
+ghost use Rattle.sides.specs.Views.{viewIn};
 ghost use Rattle.checker.specs.Judge.{judgeAnswer};
 ghost use Rattle.path_matcher.specs.Following.{entryBytes, blockBytes, wrongPath, followAnswer, followStates, followBlocks};
-ghost use Rattle.path_matcher.specs.OnSides.{stepBetween, givenIn, matchedIn, verdictIn, AllMet, StartsAt};
+ghost use Rattle.path_matcher.specs.OnSides.{stepBetween, ranksIn, givenIn, matchedIn, verdictIn, AllMet, StartsAt, StandsAt, nextMove};
 
 // The most states that are given, and the most that are written: as many as a table has in each block.
 const MOST_GIVEN: usize = 256;
 
 const MOST_STATES: usize = MOST_GIVEN * Head::MAX_STATES;
+
+// How the matching path goes on: into a new block, as the given path does; not at all, while the given path goes on inside its block; inside its block,
+// while the given path stays; or no more.
+enum Move {
+    Enter(usize),
+    Stay,
+    Push(usize),
+    End,
+}
 
 // A refusal, which names nothing but its file.
 fn refusal(code: usize, file: usize) -> Answer
@@ -54,10 +63,13 @@ fn refusal(code: usize, file: usize) -> Answer
 
 // ---- the given path
 
-// The step from s to u, and 256 where there is none.
-fn step_between(side: &Side, s: usize, u: usize) -> usize
-    ensures { λ r. ⌜ r ≡ stepBetween (now (side .entry)) s u ⌝ }
+// The step from state i of the path to the next, and 256 where there is none.
+fn step_after(side: &Side, path: &[u8], i: usize) -> usize
+    requires { ⌜ i < length (now path) ⌝ }
+    ensures { λ r. ⌜ r ≡ stepBetween (now (side .entry)) (byteAt (now (path .entry)) i) (byteAt (now (path .entry)) (i + 1)) ⌝ }
 {
+    let s = byte(path, i);
+    let u = byte(path, i + 1);
     let mut j = first(side, s);
     while j < Head::MAX_STEPS {
         if to(side, j) == u {
@@ -106,23 +118,26 @@ fn is_no_path(side: &Side, path: &[u8]) -> bool
 
 // ---- what is written
 
-// A block's number, over a part of two bytes.
-fn put_number(block: usize, part: &mut [u8])
-    requires { ⌜ length (now part) ≡ 2 ⌝ }
-    ensures { λ _. ⌜ now (part .exit) ≡ bigBytes 2 block ⌝ }
+// Writes a block's number over the two bytes of given state i.
+fn put_number(block: usize, output: &mut [u8], i: usize)
+    requires { ⌜ 2 * i + 2 ≤ length (now output) ⌝ }
+    ensures { λ _. ⌜ now (output .exit) ≡ take (2 * i) (now (output .entry)) ++ bigBytes 2 block ++ drop (2 * i + 2) (now (output .entry)) ⌝ }
 {
-    part[0] = (block / 256 % 256) as u8;
-    part[1] = (block % 256) as u8;
+    let at = 2 * i;
+    output[at] = (block / 256 % 256) as u8;
+    output[at + 1] = (block % 256) as u8;
 }
 
-// A state and its block's number, over a part of three bytes.
-fn put_entry(state: usize, block: usize, part: &mut [u8])
-    requires { ⌜ (state < 256) × (length (now part) ≡ 3) ⌝ }
-    ensures { λ _. ⌜ now (part .exit) ≡ entryBytes (record { state = state; block = block }) ⌝ }
+// Writes a state and its block's number over the three bytes of written state i.
+fn put_entry(state: usize, block: usize, output: &mut [u8], i: usize)
+    requires { ⌜ (state < 256) × (3 * i + 3 ≤ length (now output)) ⌝ }
+    ensures { λ _. ⌜ now (output .exit)
+        ≡ take (3 * i) (now (output .entry)) ++ entryBytes (record { state = state; block = block }) ++ drop (3 * i + 3) (now (output .entry)) ⌝ }
 {
-    part[0] = state as u8;
-    part[1] = (block / 256 % 256) as u8;
-    part[2] = (block % 256) as u8;
+    let at = 3 * i;
+    output[at] = state as u8;
+    output[at + 1] = (block / 256 % 256) as u8;
+    output[at + 2] = (block % 256) as u8;
 }
 
 // ---- the matching path
@@ -133,6 +148,44 @@ fn smallest_after(side: &Side, s: usize) -> usize
 {
     let states = entered(side, s);
     states.first()
+}
+
+// How it goes on from their state, beside state `place` of the path, from which step j goes to the next: by the obligation's outcome; and where the given
+// path has ended in a terminal state, to the smallest state that a step enters.
+fn next_move(
+    ours: &Side,
+    theirs: &Side,
+    certificate: &[u8],
+    run: Run,
+    path: &[u8],
+    place: usize,
+    state: usize,
+    j: usize,
+) -> Move
+    requires { ⌜ AllMet (now ours) (now theirs) (now certificate) run ⌝ }
+    requires { ⌜ StandsAt (now ours) (now theirs) (now path) place state j ⌝ }
+    ensures { λ r. ⌜ r ≡ nextMove (viewIn (now (ours .entry)) (now (theirs .entry))) (ranksIn (now (certificate .entry)) run) (now (path .entry)) place state ⌝ }
+{
+    if place < path.len() - 1 {
+        let outcome = obligation_at(ours, theirs, certificate, run, j, state);
+        let Outcome::Met(clause, x) = outcome else {
+            // In an accepted certificate every obligation is met.
+            return Move::End;
+        };
+        return match clause {
+            Clause::Step => Move::Enter(x),
+            Clause::Stutter => Move::Stay,
+            Clause::Match => Move::Push(x),
+        };
+    }
+    if smallest_after(ours, byte(path, place)) < Head::MAX_STATES {
+        return Move::End;
+    }
+    let x = smallest_after(theirs, state);
+    if x < Head::MAX_STATES {
+        return Move::Push(x);
+    }
+    Move::End
 }
 
 // Follows the path of our side from their state `start` on: the states that match it go to the front of `found`, the block numbers of the given ones to the
@@ -151,61 +204,47 @@ fn follow_path(
     requires { ⌜ StartsAt (now ours) (now theirs) (now path) start ⌝ }
     ensures count { λ r. ⌜ r ≡ length (matchedIn (now (ours .entry)) (now (theirs .entry)) (now (certificate .entry)) run (now (path .entry)) start) ⌝ }
     ensures small { λ r. ⌜ r ≤ 16384 ⌝ }
-    ensures states { λ _. ⌜ now (found .exit) ≡ putFront (flatMap entryBytes
-        (matchedIn (now (ours .entry)) (now (theirs .entry)) (now (certificate .entry)) run (now (path .entry)) start)) (now (found .entry)) ⌝ }
-    ensures blocks { λ _. ⌜ now (numbers .exit) ≡ putFront (flatMap blockBytes
-        (givenIn (now (ours .entry)) (now (theirs .entry)) (now (certificate .entry)) run (now (path .entry)) start)) (now (numbers .entry)) ⌝ }
+    ensures states { λ r. ⌜ take (3 * r) (now (found .exit)) ≡ flatMap entryBytes
+        (matchedIn (now (ours .entry)) (now (theirs .entry)) (now (certificate .entry)) run (now (path .entry)) start) ⌝ }
+    ensures blocks { λ _. ⌜ take (2 * length (now (path .entry))) (now (numbers .exit)) ≡ flatMap blockBytes
+        (givenIn (now (ours .entry)) (now (theirs .entry)) (now (certificate .entry)) run (now (path .entry)) start) ⌝ }
 {
     let matching: &mut [u8] = found;
     let blocks: &mut [u8] = numbers;
-    put_entry(start, 0, &mut matching[0..3]);
-    put_number(0, &mut blocks[0..2]);
-    let last = path.len() - 1;
+    put_entry(start, 0, matching, 0);
+    put_number(0, blocks, 0);
     let mut place: usize = 0;
     let mut state = start;
     let mut block: usize = 0;
     let mut count: usize = 1;
-    let mut j = step_between(ours, byte(path, 0), byte(path, 1));
-    while place < last {
-        let outcome = obligation_at(ours, theirs, certificate, run, j, state);
-        let Outcome::Met(clause, x) = outcome else {
-            // In an accepted certificate every obligation is met.
-            return count;
-        };
-        match clause {
-            Clause::Step => {
+    let mut j = step_after(ours, path, 0);
+    loop {
+        let next = next_move(ours, theirs, certificate, run, path, place, state, j);
+        match next {
+            Move::Enter(x) => {
                 place += 1;
-                state = x;
                 block += 1;
-                put_number(block, &mut blocks[2 * place..2 * place + 2]);
-                put_entry(state, block, &mut matching[3 * count..3 * count + 3]);
+                put_number(block, blocks, place);
+                put_entry(x, block, matching, count);
                 count += 1;
-                j = step_between(ours, byte(path, place), byte(path, place + 1));
-            }
-            Clause::Stutter => {
-                place += 1;
-                put_number(block, &mut blocks[2 * place..2 * place + 2]);
-                j = step_between(ours, byte(path, place), byte(path, place + 1));
-            }
-            Clause::Match => {
                 state = x;
-                put_entry(state, block, &mut matching[3 * count..3 * count + 3]);
+                j = step_after(ours, path, place);
+            }
+            Move::Stay => {
+                place += 1;
+                put_number(block, blocks, place);
+                j = step_after(ours, path, place);
+            }
+            Move::Push(x) => {
+                put_entry(x, block, matching, count);
                 count += 1;
+                state = x;
+            }
+            Move::End => {
+                return count;
             }
         }
     }
-    // Where the given path ends in a terminal state, it goes on to one.
-    if smallest_after(ours, byte(path, last)) < Head::MAX_STATES {
-        return count;
-    }
-    let mut x = smallest_after(theirs, state);
-    while x < Head::MAX_STATES {
-        state = x;
-        put_entry(state, block, &mut matching[3 * count..3 * count + 3]);
-        count += 1;
-        x = smallest_after(theirs, state);
-    }
-    count
 }
 
 // Follows a path of our side: 25, 26 or 27, or the matching path and the block numbers of the given states over the fronts of the two outputs.
