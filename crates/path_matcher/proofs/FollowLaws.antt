@@ -100,15 +100,15 @@ module _ (ours theirs certificate : List ℕ) (run : Run) (path : List ℕ) (sta
     whole : Matched v r (byteAt path 0) (drop 1 path) start
     whole = path-matched v r (all .formed) path (from .path-is) start (all .ranks′) (all .met) (all .met′) (from .related)
 
-    some : 0 < length path
-    some = path-e (v .own) path (from .path-is) .0
+    pub path-some : 0 < length path
+    path-some = path-e (v .own) path (from .path-is) .0
 
     pub given-count : length given ≡ length path
-    given-count = given-length whole ∙ omega (arith, length-drop 1 path, some)
+    given-count = given-length whole ∙ omega (arith, length-drop 1 path, path-some)
 
     pub matched-few : length matched ≤ 16384
     matched-few =
-        let h : suc (length (drop 1 path)) ≤ 256 = omega (arith, length-drop 1 path, some, from .few) in
+        let h : suc (length (drop 1 path)) ≤ 256 = omega (arith, length-drop 1 path, path-some, from .few) in
         let k : suc (length (drop 1 path)) * v .other .states ≤ 256 * 64 = mul-le-mul h (states-few theirs) in
         omega (arith, matching-most whole)
 

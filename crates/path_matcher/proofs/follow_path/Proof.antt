@@ -7,7 +7,9 @@ use lib.ListN.{length}
 use borrow.Author.Needs.{needs}
 use Rattle.lists.specs.Numbers.{byteAt}
 use Rattle.path_matcher.specs.OnSides.{stepBetween, matchedIn}
-use Rattle.path_matcher.proofs.FollowLaws.{Going, start-small, going-start, going-stands, going-after}
+use Rattle.path_matcher.specs.declared.Move.{Move}
+use Rattle.path_matcher.specs.declared.Move.the-variants.{Enter, Stay, Push, End}
+use Rattle.path_matcher.proofs.FollowLaws.{Going, Entering, Staying, Pushing, Ending, After, path-some, start-small, going-start, going-stands, going-after}
 use Rattle.path_matcher.proofs.follow_path.Statement.{statement}
 use Rattle.path_matcher.proofs.follow_path.Tie as tie
 
@@ -20,86 +22,127 @@ abbrev μ-loop : tie.MeasureT-loop
 μ-loop ours theirs certificate run start path matching₀ blocks₀ place₀ state₀ block₀ count₀ j₀ matching blocks place state block count j =
     length path + length (matchedIn ours theirs certificate run path start) - (place + count)
 
+-- ---- what a move leads to, from where the loop stood
+
+abbrev start-at : tie.After-next-move Inv-loop μ-loop → tie.Start Inv-loop μ-loop
+start-at c = c .before .before .before .before .before .before .before .before .before .before .before .before .before .before .before
+
+after : (c : tie.After-next-move Inv-loop μ-loop) (m : Move) → c .next-move .result ≡ m → let a = start-at c .args in
+    After (now (a .ours)) (now (a .theirs)) (now (a .certificate)) (a .run) (now (a .path)) (a .start) (start-at c .pre .0) (start-at c .pre .1)
+    (c .before .loop .inv .0) m
+after c m e =
+    let a = start-at c .args in
+    going-after (now (a .ours)) (now (a .theirs)) (now (a .certificate)) (a .run) (now (a .path)) (a .start) (start-at c .pre .0) (start-at c .pre .1)
+    (c .before .loop .inv .0) m (c .next-move .ensures) e
+
+abbrev entered : (c : tie.After-next Inv-loop μ-loop) → let m = c .before .before in let a = start-at m .args in
+    Entering (now (a .ours)) (now (a .theirs)) (now (a .certificate)) (a .run) (now (a .path)) (a .start) (start-at m .pre .0) (start-at m .pre .1)
+    (m .before .loop .inv .0) (c .next .given .0 .0)
+entered c = after (c .before .before) (Enter (c .next .given .0 .0)) (c .next .given .1)
+
+abbrev stayed : (c : tie.After-enum-told Inv-loop μ-loop) → let m = c .before .before in let a = start-at m .args in
+    Staying (now (a .ours)) (now (a .theirs)) (now (a .certificate)) (a .run) (now (a .path)) (a .start) (start-at m .pre .0) (start-at m .pre .1)
+    (m .before .loop .inv .0)
+stayed c = after (c .before .before) Stay (c .enum-told .given .1)
+
+abbrev pushed : (c : tie.After-next2 Inv-loop μ-loop) → let m = c .before .before in let a = start-at m .args in
+    Pushing (now (a .ours)) (now (a .theirs)) (now (a .certificate)) (a .run) (now (a .path)) (a .start) (start-at m .pre .0) (start-at m .pre .1)
+    (m .before .loop .inv .0) (c .next2 .given .0 .0)
+pushed c = after (c .before .before) (Push (c .next2 .given .0 .0)) (c .next2 .given .1)
+
+abbrev ended : (c : tie.After-enum-told2 Inv-loop μ-loop) → let m = c .before .before in let a = start-at m .args in
+    Ending (now (a .ours)) (now (a .theirs)) (now (a .certificate)) (a .run) (now (a .path)) (a .start) (start-at m .pre .0) (start-at m .pre .1)
+    (m .before .loop .inv .0)
+ended c = after (c .before .before) End (c .enum-told2 .given .1)
+
+-- ---- the needs
+
 put-entry-requires : tie.Need-put-entry-requires Inv-loop μ-loop
-put-entry-requires c κs = search needs
+put-entry-requires c κs = let s = c .before .before .before .before .before in (start-small _ _ _ _ _ _ (s .pre .0) (s .pre .1), omega arith)
 
 put-number-requires : tie.Need-put-number-requires Inv-loop μ-loop
-put-number-requires c κs = search needs
+put-number-requires c κs = omega arith
 
 step-after-requires : tie.Need-step-after-requires Inv-loop μ-loop
-step-after-requires c κs = search needs
+step-after-requires c κs = let s = c .before .before .before .before .before .before .before .before .before .before .before .before in path-some _ _ _ _ _ _ (s .pre .0) (s .pre .1)
 
 loop-holds : tie.Need-loop-holds Inv-loop μ-loop
-loop-holds c = ?h3
+loop-holds c = 
+    let s = c .before .before .before .before .before .before .before .before .before .before .before .before .before in (
+      going-start _ _ _ _ _ _ (s .pre .0) (s .pre .1) (now (s .args .found)) (now (s .args .numbers)) (omega arith) (omega arith) (c .before .before .before .before .before .before .before .put-entry .ensures) (c .before .before .before .put-number .ensures),
+      c .step-after .ensures,
+    )
 
 next-move-requires : tie.Need-next-move-requires Inv-loop μ-loop
-next-move-requires c κs = search needs
+next-move-requires c κs = 
+    let s = c .before .before .before .before .before .before .before .before .before .before .before .before .before .before in
+    (s .pre .0, going-stands _ _ _ _ _ _ (s .pre .0) (s .pre .1) (c .loop .inv .0) (c .loop .inv .1))
 
 enum-known-next : tie.Need-enum-known-next Inv-loop μ-loop
 enum-known-next c = search needs
 
 add-place : tie.Need-add-place Inv-loop μ-loop
-add-place c = search needs
+add-place c = let x = entered (c .before) .more in omega arith
 
 add-block : tie.Need-add-block Inv-loop μ-loop
-add-block c = search needs
+add-block c = let x = entered (c .before) .low in omega arith
 
 put-number-requires-2 : tie.Need-put-number-requires-2 Inv-loop μ-loop
-put-number-requires-2 c κs = search needs
+put-number-requires-2 c κs = entered (c .before .before) .number-room
 
 put-entry-requires-2 : tie.Need-put-entry-requires-2 Inv-loop μ-loop
-put-entry-requires-2 c κs = search needs
+put-entry-requires-2 c κs = let x = entered (c .before .before .before .before .before .before) in (x .small, x .entry-room)
 
 add-count : tie.Need-add-count Inv-loop μ-loop
-add-count c = search needs
+add-count c = let x = entered (c .before .before .before .before .before .before .before .before .before) .entry-room in omega arith
 
 step-after-requires-2 : tie.Need-step-after-requires-2 Inv-loop μ-loop
-step-after-requires-2 c κs = search needs
+step-after-requires-2 c κs = entered (c .before .before .before .before .before .before .before .before .before) .more
 
 loop-less : tie.Need-loop-less Inv-loop μ-loop
-loop-less c = search needs
+loop-less c = let x = entered (c .before .before .before .before .before .before .before .before .before .before) in let y = x .more in let z = x .fewer in omega arith
 
 loop-again : tie.Need-loop-again Inv-loop μ-loop
-loop-again c = ?h4
+loop-again c = (entered (c .before .before .before .before .before .before .before .before .before .before) .next (c .before .before .before .before .before .before .before .put-number2 .ensures) (c .before .before .before .put-entry2 .ensures), c .step-after2 .ensures)
 
 enum-told : tie.Need-enum-told Inv-loop μ-loop
 enum-told c = search needs
 
 add-place-2 : tie.Need-add-place-2 Inv-loop μ-loop
-add-place-2 c = search needs
+add-place-2 c = let x = stayed c .more in omega arith
 
 put-number-requires-3 : tie.Need-put-number-requires-3 Inv-loop μ-loop
-put-number-requires-3 c κs = search needs
+put-number-requires-3 c κs = stayed (c .before) .number-room
 
 step-after-requires-3 : tie.Need-step-after-requires-3 Inv-loop μ-loop
-step-after-requires-3 c κs = search needs
+step-after-requires-3 c κs = stayed (c .before .before .before .before) .more
 
 loop-less-2 : tie.Need-loop-less-2 Inv-loop μ-loop
-loop-less-2 c = search needs
+loop-less-2 c = let x = stayed (c .before .before .before .before .before) .more in let y = c .before .before .before .before .before .before .before .before .loop .inv .0 .standing .room in omega arith
 
 loop-again-2 : tie.Need-loop-again-2 Inv-loop μ-loop
-loop-again-2 c = ?h5
+loop-again-2 c = (stayed (c .before .before .before .before .before) .next (c .before .before .before .put-number3 .ensures), c .step-after3 .ensures)
 
 enum-known-next-2 : tie.Need-enum-known-next-2 Inv-loop μ-loop
 enum-known-next-2 c = search needs
 
 put-entry-requires-3 : tie.Need-put-entry-requires-3 Inv-loop μ-loop
-put-entry-requires-3 c κs = search needs
+put-entry-requires-3 c κs = let x = pushed (c .before .before) in (x .small, x .entry-room)
 
 add-count-2 : tie.Need-add-count-2 Inv-loop μ-loop
-add-count-2 c = search needs
+add-count-2 c = let x = pushed (c .before .before .before .before .before) .entry-room in omega arith
 
 loop-less-3 : tie.Need-loop-less-3 Inv-loop μ-loop
-loop-less-3 c = search needs
+loop-less-3 c = let x = pushed (c .before .before .before .before .before) .fewer in let y = c .before .before .before .before .before .before .before .before .loop .inv .0 .standing .inside in omega arith
 
 loop-again-3 : tie.Need-loop-again-3 Inv-loop μ-loop
-loop-again-3 c = ?h6
+loop-again-3 c = (pushed (c .before .before .before .before .before) .next (c .before .before .put-entry3 .ensures), c .before .before .before .before .before .before .before .before .loop .inv .1)
 
 enum-told-2 : tie.Need-enum-told-2 Inv-loop μ-loop
 enum-told-2 c = search needs
 
 returns : tie.Need-returns Inv-loop μ-loop
-returns c = ?h7
+returns c = let x = ended c in (x .count-is, (x .few, (x .found-all, x .numbers-all)))
 
 pub follow-path-spec : {M : Type 1} → statement M
 follow-path-spec =
