@@ -1,14 +1,31 @@
--- Where the judge accepts, the two sides that are made of the same bytes hold what it judged. Assumes nothing.
+-- Where the judge accepts, every obligation is met, and the two sides that are made of the same bytes hold what it judged. Assumes nothing.
 use Prim.Native.Nat.{ℕ}
 use mathlib.Core.Path.{_≡_}
 use mathlib.Core.List.{List}
+use Rattle.bisimulation.specs.Clauses.{Meets, EveryObligation}
+use Rattle.bisimulation.specs.Systems.{flip, swap}
+use Rattle.answers.proofs.CauseLaws.{append-none}
+use Rattle.table_reader.specs.TableCauses.{tableCauses}
 use Rattle.certificates.specs.Layout.{sizesOf}
-use Rattle.certificates.specs.CertificateModel.{AreBytes}
+use Rattle.certificates.specs.CertificateModel.{AreBytes, certifiedView, certifiedRanks}
+use Rattle.certificate_reader.specs.CertificateCauses.{certificateCauses}
 use Rattle.certified_sides.specs.declared.Sides.{Sides}
 use Rattle.certified_sides.specs.Made.{CertifiedSides}
+use Rattle.obligations.proofs.JudgingLaws.{none-iff}
 use Rattle.checker.specs.Judge.{judgeAnswer}
-use Rattle.checker.proofs.JudgeCauseLaws.{zero-read}
-use Rattle.checker.proofs.SidesReadLaws.{SidesRead, made-sizes, sides-read}
+use Rattle.checker.proofs.JudgeCauseLaws.{afterCertificate, afterRight, afterLeft, zero-none, zero-read}
+use Rattle.checker.proofs.SidesReadLaws.{SidesRead, formed, made-sizes, sides-read}
+
+-- every obligation of both tables is met
+pub accepted-met : (left right c : List ℕ) → judgeAnswer left right c .code ≡ 0 → AreBytes c
+    → EveryObligation Meets (certifiedView left right c) (certifiedRanks left right c)
+    × EveryObligation Meets (flip (certifiedView left right c)) (swap (certifiedRanks left right c))
+accepted-met left right c zero bytes =
+    let a = append-none (tableCauses 0 left) (afterLeft left right c) (zero-none left right c zero) in
+    let b = append-none (tableCauses 1 right) (afterRight left right c) (a .1) in
+    let d = append-none (certificateCauses 2 (sizesOf left right) c) (afterCertificate left right c) (b .1) in
+    let m = none-iff (certifiedView left right c) (formed left right c (zero-read left right c zero) bytes) (certifiedRanks left right c) .0 (d .1 .1) in
+    (m .1, m .2)
 
 module _ (left right c : List ℕ) (zero : judgeAnswer left right c .code ≡ 0) {s : Sides} (certified : CertifiedSides left right c s) where
   pub accepted-sizes : s .sizes ≡ sizesOf left right

@@ -242,6 +242,10 @@ part-none l a e h = ap (λ (k : ℕ). take k (drop a l)) (let z : e - a ≡ 0 = 
 pub part-rest : (l : List ℕ) (a e : ℕ) → length l ≤ e → part l a e ≡ drop a l
 part-rest l a e h = take-all (e - a) (drop a l) (rw length-drop (omega arith))
 
+-- a part from the start is a front
+pub part-front : (l : List ℕ) (e : ℕ) → part l 0 e ≡ take e l
+part-front l e = ap (λ (k : ℕ). take k l) (let z : e - 0 ≡ e = omega arith in z)
+
 -- what stands in a part
 pub getD-part : (l : List ℕ) (a e i : ℕ) → a + i < e → getD (part l a e) i 0 ≡ getD l (a + i) 0
 getD-part l a e i h = getD-take (e - a) (drop a l) i 0 (omega arith) ∙ getD-drop a l i 0

@@ -3,3 +3,5 @@ pub mod FollowCauseLaws
 pub mod PathLaws
 pub mod MoveLaws
 pub mod FollowLaws
+pub mod FollowSidesLaws
+pub mod AcceptedLaws

@@ -204,6 +204,7 @@ fn follow_path(
     requires { ⌜ StartsAt (now ours) (now theirs) (now path) start ⌝ }
     ensures count { λ r. ⌜ r ≡ length (matchedIn (now (ours .entry)) (now (theirs .entry)) (now (certificate .entry)) run (now (path .entry)) start) ⌝ }
     ensures small { λ r. ⌜ r ≤ 16384 ⌝ }
+    ensures long { λ _. ⌜ (length (now (found .exit)) ≡ 49152) × (length (now (numbers .exit)) ≡ 512) ⌝ }
     ensures states { λ r. ⌜ take (3 * r) (now (found .exit)) ≡ flatMap entryBytes
         (matchedIn (now (ours .entry)) (now (theirs .entry)) (now (certificate .entry)) run (now (path .entry)) start) ⌝ }
     ensures blocks { λ _. ⌜ take (2 * length (now (path .entry))) (now (numbers .exit)) ≡ flatMap blockBytes

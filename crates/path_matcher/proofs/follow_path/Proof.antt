@@ -67,14 +67,14 @@ step-after-requires : tie.Need-step-after-requires Inv-loop μ-loop
 step-after-requires c κs = let s = c .before .before .before .before .before .before .before .before .before .before .before .before in path-some _ _ _ _ _ _ (s .pre .0) (s .pre .1)
 
 loop-holds : tie.Need-loop-holds Inv-loop μ-loop
-loop-holds c = 
+loop-holds c =
     let s = c .before .before .before .before .before .before .before .before .before .before .before .before .before in (
       going-start _ _ _ _ _ _ (s .pre .0) (s .pre .1) (now (s .args .found)) (now (s .args .numbers)) (omega arith) (omega arith) (c .before .before .before .before .before .before .before .put-entry .ensures) (c .before .before .before .put-number .ensures),
       c .step-after .ensures,
     )
 
 next-move-requires : tie.Need-next-move-requires Inv-loop μ-loop
-next-move-requires c κs = 
+next-move-requires c κs =
     let s = c .before .before .before .before .before .before .before .before .before .before .before .before .before .before in
     (s .pre .0, going-stands _ _ _ _ _ _ (s .pre .0) (s .pre .1) (c .loop .inv .0) (c .loop .inv .1))
 
@@ -142,7 +142,10 @@ enum-told-2 : tie.Need-enum-told-2 Inv-loop μ-loop
 enum-told-2 c = search needs
 
 returns : tie.Need-returns Inv-loop μ-loop
-returns c = let x = ended c in (x .count-is, (x .few, (x .found-all, x .numbers-all)))
+returns c =
+    let x = ended c in
+    let g = c .before .before .before .loop .inv .0 in
+    (x .count-is, (x .few, ((g .found-long, g .numbers-long), (x .found-all, x .numbers-all))))
 
 pub follow-path-spec : {M : Type 1} → statement M
 follow-path-spec =

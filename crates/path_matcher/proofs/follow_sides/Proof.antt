@@ -1,127 +1,164 @@
-use Prim.Native.Nat.{ℕ, _≤_, _<_, _-_, _+_, _*_}
-use mathlib.Core.Path.{_≡_, refl, sym, ap, _∙_}
-use mathlib.Core.Logic.{⊎-elim}
+-- `path_matcher::follow_sides` meets its contract: test after test, and only then both outputs are written. Assumes nothing.
+use Prim.Native.Nat.{ℕ, _*_, _≤_}
+use mathlib.Core.Path.{_≡_, sym, ap, _∙_}
+use mathlib.Core.Bool.{false}
+use mathlib.Core.List.{List}
 use native.Mathlib.Omega.{arith}
-use borrow.Author.Tests.{lt-ltb, le-ltb, le-leb, lt-leb, eq-eqb, ne-eqb, ltb-true, ltb-false}
-use lib.ListN.{length, getD, take, drop}
 use denote.Ref.{now}
+use lib.ListN.{length}
 use borrow.Author.Needs.{needs}
+use borrow.Author.Tests.{not-true, not-false}
+use Rattle.lists.specs.Lists.{putFront}
+use Rattle.lists.proofs.FillLaws.{part-front}
+use Rattle.answers.specs.Numbers.{sixNumbers}
+use Rattle.sides.specs.Side.{systemIn}
+use Rattle.sides.specs.Views.{viewIn}
+use Rattle.path_matcher.specs.Following.{wrongPath, wrongStart}
+use Rattle.path_matcher.specs.OnSides.{matchedIn}
+use Rattle.path_matcher.proofs.FollowSidesLaws.{
+  answered-refusal,
+  answered-success,
+  verdict-25,
+  verdict-26,
+  verdict-27,
+  verdict-on,
+  start-wrong,
+  start-right,
+  starts-at,
+  states-short,
+  blocks-short,
+  room-enough,
+  right-few,
+}
 use Rattle.path_matcher.proofs.follow_sides.Statement.{statement}
 use Rattle.path_matcher.proofs.follow_sides.Tie as tie
-use Rattle.path_matcher.proofs.follow_sides.Reads as reads
-use Rattle.path_matcher.proofs.follow_sides.Lts as lts
-use Rattle.lists.proofs.byte.Reads as byte-reads
-use Rattle.lists.proofs.part_of.Reads as part-of-reads
-use Rattle.lists.proofs.put_front.Reads as put-front-reads
-use Rattle.path_matcher.proofs.follow_path.Reads as follow-path-reads
-use Rattle.path_matcher.proofs.is_no_path.Reads as is-no-path-reads
-use Rattle.path_matcher.proofs.refusal.Reads as refusal-reads
-use Rattle.sides.proofs.related.Reads as related-reads
-use Rattle.words.proofs.Row.has.Reads as has-reads
 
--- src/lib.rt:276:8
+-- ---- what is known when the start is looked up, and when the path is followed
+
+abbrev start-at : tie.After-has → tie.Start
+start-at c = c .before .before .before .before .before .before .before .before .before
+
+right-path : (c : tie.After-has) → let a = start-at c .args in wrongPath 0 (systemIn (now (a .ours))) (now (a .path)) ≡ false
+right-path c = sym (c .before .before .before .before .is-no-path .ensures) ∙ c .before .before .before .if1 .left
+
+abbrev found-at : tie.After-follow-path → tie.After-has
+found-at c = c .before .before .before .before
+
+right-start : (c : tie.After-follow-path) → let a = start-at (found-at c) .args in
+    wrongStart (viewIn (now (a .ours)) (now (a .theirs))) (now (a .path)) (a .start) ≡ false
+right-start c =
+    let h = found-at c in
+    start-right (start-at h .pre) (now (start-at h .args .path)) (start-at h .args .start) (h .before .before .byte .ensures .0) (h .before .related .ensures .0)
+    (h .has .ensures) (not-false _ (c .before .before .before .if2 .left))
+
+-- how many states match
+counted : (c : tie.After-follow-path) → let a = start-at (found-at c) .args in
+    c .follow-path .result ≡ length (matchedIn (now (a .ours)) (now (a .theirs)) (now (a .certificate)) (a .run) (now (a .path)) (a .start))
+counted c = c .follow-path .ensures .0
+
+-- ---- the needs
+
 is-no-path-requires : tie.Need-is-no-path-requires
-is-no-path-requires c κs = search needs
+is-no-path-requires c κs = c .before .before .before .before .pre .linked
 
--- src/lib.rt:277:9
 refusal-requires : tie.Need-refusal-requires
 refusal-requires c κs = search needs
 
--- src/lib.rt:277:9
 returns : tie.Need-returns
-returns c = ?h1
+returns c = answered-refusal _ _ _ _ (verdict-25 _ _ _ _ _ _ (sym (c .before .before .is-no-path .ensures) ∙ c .before .if1 .taken)) (c .refusal .ensures)
 
--- src/lib.rt:279:32
 byte-requires : tie.Need-byte-requires
 byte-requires c κs = search needs
 
--- src/lib.rt:279:9
 related-requires : tie.Need-related-requires
 related-requires c κs = search needs
 
--- src/lib.rt:280:9
 has-requires : tie.Need-has-requires
 has-requires c κs = search needs
 
--- src/lib.rt:281:9
 refusal-requires-2 : tie.Need-refusal-requires-2
 refusal-requires-2 c κs = search needs
 
--- src/lib.rt:281:9
 returns-2 : tie.Need-returns-2
-returns-2 c = ?h2
+returns-2 c =
+    let h = c .before .before in
+    let wrong = start-wrong (start-at h .pre) (now (start-at h .args .path)) (start-at h .args .start) (h .before .before .byte .ensures .0)
+    (h .before .related .ensures .0) (h .has .ensures) (not-true _ (c .before .if2 .taken)) in
+    answered-refusal _ _ _ _ (verdict-26 _ _ _ _ _ _ (right-path h) wrong) (c .refusal2 .ensures)
 
--- src/lib.rt:285:9
 follow-path-requires : tie.Need-follow-path-requires
-follow-path-requires c κs = ?h3
+follow-path-requires c κs =
+    let h = c .before .before .before in (
+      start-at h .pre,
+      starts-at (start-at h .pre) (now (start-at h .args .path)) (start-at h .args .start) (h .before .before .byte .ensures .0)
+          (h .before .related .ensures .0) (h .has .ensures) (not-false _ (c .before .before .if2 .left)) (right-path h),
+    )
 
--- src/lib.rt:295:23
 mul-if3 : tie.Need-mul-if3
 mul-if3 c = search needs
 
--- src/lib.rt:296:9
 refusal-requires-3 : tie.Need-refusal-requires-3
 refusal-requires-3 c κs = search needs
 
--- src/lib.rt:296:9
 returns-3 : tie.Need-returns-3
-returns-3 c = ?h4
+returns-3 c =
+    let f = c .before .before in
+    let short = states-short _ _ _ _ (rw (counted f) at (c .before .if3 .taken)) in
+    answered-refusal _ _ _ _ (verdict-27 _ _ _ _ _ _ (right-path (found-at f)) (right-start f) short) (c .refusal3 .ensures)
 
--- src/lib.rt:298:23
 mul-if4 : tie.Need-mul-if4
-mul-if4 c = search needs
+mul-if4 c = let x = right-few _ _ (right-path (found-at (c .before))) in omega arith
 
--- src/lib.rt:299:9
 refusal-requires-4 : tie.Need-refusal-requires-4
 refusal-requires-4 c κs = search needs
 
--- src/lib.rt:299:9
 returns-4 : tie.Need-returns-4
-returns-4 c = ?h5
+returns-4 c =
+    let f = c .before .before .before in
+    let short = blocks-short _ _ _ _ (c .before .if4 .taken) in
+    answered-refusal _ _ _ _ (verdict-27 _ _ _ _ _ _ (right-path (found-at f)) (right-start f) short) (c .refusal4 .ensures)
 
--- src/lib.rt:301:23
 slice-aggregate-part-of : tie.Need-slice-aggregate-part-of
-slice-aggregate-part-of c = ?h6
+slice-aggregate-part-of c = sym (c .before .before .before .follow-path .ensures .1 .1 .0 .0)
 
--- src/lib.rt:301:34
 mul-part-of : tie.Need-mul-part-of
 mul-part-of c = search needs
 
--- src/lib.rt:301:15
 part-of-requires : tie.Need-part-of-requires
 part-of-requires c κs = search needs
 
--- src/lib.rt:301:5
 put-front-requires : tie.Need-put-front-requires
 put-front-requires c κs = search needs
 
--- src/lib.rt:302:23
 slice-aggregate-part-of-2 : tie.Need-slice-aggregate-part-of-2
-slice-aggregate-part-of-2 c = ?h7
+slice-aggregate-part-of-2 c = sym (c .before .before .before .before .before .before .before .before .before .follow-path .ensures .1 .1 .0 .1)
 
--- src/lib.rt:302:36
 mul-part-of-2 : tie.Need-mul-part-of-2
-mul-part-of-2 c = ?h8
+mul-part-of-2 c = let x = right-few _ _ (right-path (found-at (c .before .before .before .before .before .before .before .before .before))) in omega arith
 
--- src/lib.rt:302:15
 part-of-requires-2 : tie.Need-part-of-requires-2
 part-of-requires-2 c κs = search needs
 
--- src/lib.rt:302:5
 put-front-requires-2 : tie.Need-put-front-requires-2
 put-front-requires-2 c κs = search needs
 
--- src/lib.rt:251:1
 same-length : tie.Need-same-length
 same-length c = search needs
 
--- src/lib.rt:251:1
 same-length-2 : tie.Need-same-length-2
 same-length-2 c = search needs
 
--- src/lib.rt:251:1
 returns-5 : tie.Need-returns-5
-returns-5 c = ?h9
+returns-5 c =
+    let f = c .before .before .before .before .before .before .before .before .before .before .before .before .before .before in
+    let a = start-at (found-at f) .args in
+    let e = f .follow-path .ensures in
+    let few : 3 * length (matchedIn (now (a .ours)) (now (a .theirs)) (now (a .certificate)) (a .run) (now (a .path)) (a .start)) ≤ length (now (a .states)) =
+    rw (counted f) at (c .before .before .before .before .before .before .before .before .before .before .before .before .before .if3 .left) in
+    answered-success _ _ _ _ (verdict-on _ _ _ _ _ _ (right-path (found-at f)) (right-start f) (room-enough _ _ _ _ few (c .before .before .before .before .before .before .before .before .before .before .before .before .if4 .left)))
+    (ap (sixNumbers 0 0) (counted f))
+    (c .before .before .before .before .before .before .before .before .put-front .ensures ∙ ap (λ (x : List ℕ). putFront x (now (a .states))) (c .before .before .before .before .before .before .before .before .before .before .part-of .ensures ∙ part-front (f .follow-path .last .1 .1 .1 .1 .1 .1 .0) (3 * f .follow-path .result) ∙ e .1 .1 .1 .0))
+    (c .before .before .put-front2 .ensures ∙ ap (λ (x : List ℕ). putFront x (now (a .blocks))) (c .before .before .before .before .part-of2 .ensures ∙ part-front (f .follow-path .last .1 .1 .1 .1 .1 .1 .1 .0) (2 * length (now (a .path))) ∙ e .1 .1 .1 .1))
 
 pub follow-sides-spec : {M : Type 1} → statement M
 follow-sides-spec =

@@ -37,17 +37,17 @@ enum-told-4 : tie.Need-enum-told-4
 enum-told-4 c = search needs
 
 returns-2 : tie.Need-returns-2
-returns-2 c = 
+returns-2 c =
     let a = c .before .before .before .before .before .before .before .before .before .pre in
     move-met (a .0) (a .1) (omega arith) Step (c .before .before .before .before .before .obligation-at .ensures) (c .before .before .before .outcome .given .1) (c .enum-told2 .given .1)
 
 returns-3 : tie.Need-returns-3
-returns-3 c = 
+returns-3 c =
     let a = c .before .before .before .before .before .before .before .before .before .pre in
     move-met (a .0) (a .1) (omega arith) Stutter (c .before .before .before .before .before .obligation-at .ensures) (c .before .before .before .outcome .given .1) (c .enum-told3 .given .1)
 
 returns-4 : tie.Need-returns-4
-returns-4 c = 
+returns-4 c =
     let a = c .before .before .before .before .before .before .before .before .before .pre in
     move-met (a .0) (a .1) (omega arith) Match (c .before .before .before .before .before .obligation-at .ensures) (c .before .before .before .outcome .given .1) (c .enum-told4 .given .1)
 
