@@ -1,5 +1,5 @@
--- Laws of verdicts: the first that refuses, along lists and over indices; and verdicts that are decided by causes, so that a chain of tests in the order of
--- its causes is decided by their list. Assumes nothing.
+-- Laws of verdicts: the first that refuses, along lists and over indices; verdicts that are decided by causes, so that a chain of tests in the order of
+-- its causes is decided by their list; and the output after a verdict. Assumes nothing.
 use Prim.Native.Nat.{ℕ, zero, suc, _≤_, _<_, zero-le, suc-le-suc}
 use mathlib.Core.Path.{_≡_, refl, sym, ap, _∙_, subst}
 use mathlib.Core.Logic.{inl, inr}
@@ -8,12 +8,14 @@ use mathlib.Core.List.{List, [], _∷_, _++_, map, flatMap, append-nil}
 use native.Mathlib.Nat.{not-suc-le-zero, le-of-suc-le-suc}
 use native.Mathlib.Omega.{arith}
 use lib.Dec.{T, ltb, leb·suc-suc}
+use lib.ListN.{length, drop}
 use borrow.Author.Tests.{lt-ltb}
 use Rattle.lists.specs.Lists.{All, joinBelow}
 use Rattle.lists.specs.Below.{firstBelow}
 use Rattle.lists.proofs.BelowLaws.{first-passes, first-least}
+use Rattle.lists.proofs.FillLaws.{put-front-fits, put-front-length}
 use Rattle.answers.specs.Causes.{Cause, _gives_, only, FirstCause, NoCause, Answers}
-use Rattle.answers.specs.Verdicts.{Verdict, goOn, refusedWith, _andThen_, passed, along, firstOf, firstIn, answerOf}
+use Rattle.answers.specs.Verdicts.{Verdict, goOn, refusedWith, _andThen_, passed, along, firstOf, firstIn, answerOf, outputAfter}
 use Rattle.answers.specs.declared.Answer.{Answer}
 use Rattle.answers.proofs.DecideLaws.{Decides}
 use Rattle.answers.proofs.CauseLaws.{none-append, none-first, first-left, first-right, only-none, only-out, only-first}
@@ -238,3 +240,23 @@ pub decided-answer : {A : Type 0} {Good : A → Type 0} {causes : List Cause} (S
     → ((x : A) → v ≡ goOn x → NoCause causes → Success (success x)) → Answers causes Success (answerOf success v)
 decided-answer Success success (goOn x) d g = inr (d .by .1, g x refl (d .by .1))
 decided-answer Success success (refusedWith a) d g = inl (d .by)
+
+-- ---- the output after a verdict
+
+module _ {A : Type 0} where
+  -- a refusal leaves it as it was
+  pub refused-output : (success : A → Answer) → ((x : A) → success x .code ≡ 0) → (v : Verdict A) → ¬ (answerOf success v .code ≡ 0)
+      → (bytes output : List ℕ) → outputAfter v bytes output ≡ output
+  refused-output success zeroed (goOn x) n bytes output = absurd (n (zeroed x))
+  refused-output success zeroed (refusedWith a) n bytes output = refl
+
+  -- a verdict that goes on puts the bytes at its front, where they have room
+  pub output-on : {v : Verdict A} {x : A} → v ≡ goOn x → (bytes output : List ℕ) {k : ℕ} → length bytes ≡ k → k ≤ length output
+      → outputAfter v bytes output ≡ bytes ++ drop k output
+  output-on e bytes output l h =
+      ap (λ (v : Verdict A). outputAfter v bytes output) e ∙ put-front-fits bytes output (rw l h) ∙ ap (λ (n : ℕ). bytes ++ drop n output) l
+
+  -- and its length stays
+  pub output-length : (v : Verdict A) (bytes output : List ℕ) → length (outputAfter v bytes output) ≡ length output
+  output-length (goOn x) bytes output = put-front-length bytes output
+  output-length (refusedWith a) bytes output = refl

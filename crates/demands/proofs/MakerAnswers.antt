@@ -8,16 +8,15 @@ use native.Mathlib.Omega.{arith}
 use lib.ListN.{length}
 use Rattle.answers.specs.Numbers.{sixNumbers}
 use Rattle.answers.specs.Causes.{FirstCause, NoCause}
-use Rattle.answers.specs.Verdicts.{Verdict, goOn, refusedWith, outputAfter}
 use Rattle.answers.specs.declared.Answer.{Answer}
 use Rattle.answers.proofs.CauseLaws.{append-none, refused-iff, zero-none}
-use Rattle.answers.proofs.VerdictLaws.{decided-answer}
+use Rattle.answers.proofs.VerdictLaws.{decided-answer, refused-output}
 use Rattle.table_reader.specs.TableCauses.{tableCauses}
 use Rattle.table_reader.proofs.TableCauseLaws.{good-formed, none-good}
 use Rattle.certificates.specs.Layout.{sizesOf, certificateLength}
 use Rattle.certificates.specs.CertificateModel.{AreBytes}
 use Rattle.certificate_reader.specs.CertificateCauses.{relationCauses}
-use Rattle.ranking.specs.Make.{makeVerdict, fileFor, answerAfter, makeAnswer, makeOutput}
+use Rattle.ranking.specs.Make.{makeVerdict, fileFor, makeAnswer, makeOutput}
 use Rattle.ranking.specs.MakerCauses.{makerCauses, makerNumber}
 use Rattle.ranking.proofs.MakerCauseLaws.{maker-decided, afterRelation, afterRight, afterLeft, maker-numbers}
 use Rattle.demands.specs.Demand1.{Made, MakerAnswers}
@@ -27,11 +26,7 @@ module _ (left right relation output : List ℕ) where
   -- a refusal leaves the output as it was, whatever the lists
   pub untouched : ¬ (makeAnswer left right relation output .code ≡ 0) → makeOutput left right relation output ≡ output
   unfolding makeAnswer makeOutput
-  untouched n = go (makeVerdict left right relation output) n
-    where
-      go : (v : Verdict (Unit {0})) → ¬ (answerAfter left right v .code ≡ 0) → outputAfter v (fileFor left right relation) output ≡ output
-      go (goOn x) n = absurd (n refl)
-      go (refusedWith a) n = refl
+  untouched n = refused-output _ (λ x. refl) (makeVerdict left right relation output) n (fileFor left right relation) output
 
   module _ (bytes : AreBytes relation) where
     -- the maker answers with the first cause that applies, and a refusal leaves the output untouched

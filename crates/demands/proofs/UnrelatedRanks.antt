@@ -2,7 +2,7 @@
 use Prim.Native.Nat.{ℕ, _+_, _*_, _≤_, _<_}
 use mathlib.Core.Path.{_≡_, refl, sym, ap, ap₂, _∙_, subst, fun-ext}
 use mathlib.Core.Bool.{Bool, true, false, cond, not, _&&_}
-use mathlib.Core.List.{List, [], _∷_}
+use mathlib.Core.List.{List}
 use native.Mathlib.Omega.{arith}
 use lib.Dec.{T, ltb, eqb}
 use lib.ListN.{length}
@@ -11,6 +11,7 @@ use lib.Seq.{ext-getD}
 use Rattle.lists.specs.Lists.{All}
 use Rattle.lists.specs.Numbers.{byteAt, bigEndian}
 use Rattle.lists.proofs.BoolLaws.{and-r}
+use Rattle.lists.proofs.JoinLaws.{all-imply}
 use Rattle.lists.proofs.NumberLaws.{big-cong}
 use Rattle.bisimulation.specs.Systems.{View, Ranks, flip, swap}
 use Rattle.bisimulation.specs.Judge.{is2b, is2c, meets2c}
@@ -86,11 +87,7 @@ module _ (v : View) (r r′ : Ranks) where
   judged-same-ranks a b start start′ =
       then-cong (startsVerdict v start start′)
       (λ x. along-cong (λ c. tallied (checkVerdict v r c)) (λ c. tallied (checkVerdict v r′ c))
-      (checks v) (all-imply (checks v) (checks-same a b)) none)
-    where
-      all-imply : (cs : List Check) → All Same cs → All (λ c. (y : Tally) → tallied (checkVerdict v r c) y ≡ tallied (checkVerdict v r′ c) y) cs
-      all-imply [] h = tt
-      all-imply (c ∷ cs) h = (λ y. ap (λ (x : Verdict Finding). tallied x y) (h .0), all-imply cs (h .1))
+      (checks v) (all-imply Same _ (λ c h y. ap (λ (x : Verdict Finding). tallied x y) h) (checks v) (checks-same a b)) none)
 
 -- ---- on bytes
 

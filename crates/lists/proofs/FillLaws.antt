@@ -7,7 +7,7 @@ use Prim.Native.Nat.{ℕ, zero, suc, _+_, _*_, _-_, _/_, _%_, _<_, _≤_, zero-l
 use native.Mathlib.Nat.{not-suc-le-zero, le-of-suc-le-suc, eq-or-lt-of-le, mul-le-mul-right, suc-mul, zero-mul, div-add-mod', div-lt-iff-lt-mul, mod-lt}
 use native.Mathlib.Numerals.{add-one}
 use native.Mathlib.Omega.{arith}
-use native.Mathlib.Decide.{ℕ-discrete}
+use native.Mathlib.Decide.{ℕ-discrete, decLe}
 use lib.Arith.{digits-lt}
 use lib.ListN.{length, take, drop, getD, set, length-append, length-drop, length-set, drop-of-length-le, List·getD-append, List·getD-eq-default}
 use lib.Seq.{
@@ -150,6 +150,12 @@ put-front-fits p d h = simp (le-leb (length p) (length d) h)
 pub put-front-short : (p d : List ℕ) → length d < length p → putFront p d ≡ d
 unfolding putFront
 put-front-short p d h = simp (lt-leb (length p) (length d) h)
+
+pub put-front-length : (p d : List ℕ) → length (putFront p d) ≡ length d
+put-front-length p d = elim (decLe (length p) (length d)) [
+  | yes h ↦ ap length (put-front-fits p d h) ∙ length-append p (drop (length p) d) ∙ rw length-drop (omega arith)
+  | no h ↦ ap length (put-front-short p d (omega arith))
+]
 
 -- all of the list is taken
 pub put-front-whole : (p d : List ℕ) → length d ≡ length p → putFront p d ≡ p

@@ -49,7 +49,8 @@ module _ {A B : Type 0} (k : ℕ) (g : A → List B) (long : (x : A) → length 
   flat-length (x ∷ xs) = length-append (g x) (flatMap g xs) ∙ omega (arith, long x, flat-length xs)
 
   -- element o of the list that is given of element i, with whatever stands after them all
-  pub flat-at : (a : A) (b : B) (xs : List A) (l : List B) (i o : ℕ) → i < length xs → o < k → getD (flatMap g xs ++ l) (k * i + o) b ≡ getD (g (getD xs i a)) o b
+  pub flat-at : (a : A) (b : B) (xs : List A) (l : List B) (i o : ℕ) → i < length xs → o < k
+      → getD (flatMap g xs ++ l) (k * i + o) b ≡ getD (g (getD xs i a)) o b
   unfolding flatMap
   flat-at a b [] l i o h p = absurd (not-suc-le-zero h)
   flat-at a b (x ∷ xs) l zero o h p =

@@ -1,14 +1,15 @@
 -- Laws of numbers in bytes: one byte more, how large they are, and that what is written is read back. Assumes nothing.
 use Prim.Native.Nat.{ℕ, zero, suc, _+_, _*_, _^_, _/_, _%_, _≤_, _<_}
 use mathlib.Core.Path.{_≡_, refl, sym, ap, ap₂, _∙_}
-use mathlib.Core.List.{List, [], _∷_, _++_}
-use native.Mathlib.Nat.{pow-suc, pow-le-pow-right, lt-of-lt-of-le, zero-lt-suc, div-add-mod', div-lt-iff-lt-mul}
+use mathlib.Core.List.{List, [], _∷_, _++_, flatMap}
+use native.Mathlib.Nat.{pow-suc, pow-le-pow-right, lt-of-lt-of-le, zero-lt-suc, div-add-mod', div-lt-iff-lt-mul, add-assoc}
 use native.Mathlib.Numerals.{add-one}
 use native.Mathlib.Omega.{arith}
 use lib.Arith.{digits-lt, lt-one}
-use lib.ListN.{length, length-append, List·getD-append}
+use lib.ListN.{length, getD, length-append, List·getD-append}
 use lib.Seq.{getD-at}
 use Rattle.lists.specs.Numbers.{byteAt, bigEndian, bigBytes}
+use Rattle.lists.proofs.FlatLaws.{flat-at}
 
 pub big-more : (s : List ℕ) (at i : ℕ) → bigEndian s at (i + 1) ≡ bigEndian s at i * 256 + byteAt s (at + i)
 unfolding bigEndian
@@ -29,6 +30,12 @@ pub big-cong : (s t : List ℕ) (a b : ℕ) (k : ℕ) → ((i : ℕ) → i < k �
 unfolding bigEndian
 big-cong s t a b zero h = refl
 big-cong s t a b (suc k) h = ap₂ (λ (x y : ℕ). x * 256 + y) (big-cong s t a b k (λ i l. h i (omega arith))) (h k (omega arith))
+
+-- the number in m bytes of part i of equally long parts
+pub flat-number : {A : Type 0} (k : ℕ) (g : A → List ℕ) → ((x : A) → length (g x) ≡ k) → (a : A) (xs : List A) (l : List ℕ) (i o m : ℕ)
+    → i < length xs → o + m ≤ k → bigEndian (flatMap g xs ++ l) (k * i + o) m ≡ bigEndian (g (getD xs i a)) o m
+flat-number k g long a xs l i o m h b =
+    big-cong (flatMap g xs ++ l) (g (getD xs i a)) (k * i + o) o m (λ j n. rw add-assoc (flat-at k g long a 0 xs l i (o + j) h (omega arith)))
 
 pub length-bytes : (k x : ℕ) → length (bigBytes k x) ≡ k
 unfolding bigBytes
