@@ -9,3 +9,6 @@ pub mod MakerExact
 pub mod StarredExamples
 pub mod UnrelatedRanks
 pub mod ListingExact
+pub mod OutputLaws
+pub mod NextLaws
+pub mod FollowExact

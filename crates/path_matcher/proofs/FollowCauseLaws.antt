@@ -15,7 +15,8 @@ use Rattle.answers.specs.Causes.{_gives_, Numbered}
 use Rattle.answers.specs.Verdicts.{passIf}
 use Rattle.answers.specs.declared.Answer.{Answer}
 use Rattle.answers.proofs.CauseLaws.{numbered-append}
-use Rattle.answers.proofs.DecideLaws.{Decides, decides-as, test-decides, ltb-decides, leb-decides, eqb-decides, not-decides, and-decides, or-decides, any-decides}
+use Rattle.answers.proofs.DecideLaws.{Decides, decides-as, test-decides, ltb-decides, leb-decides, eqb-decides}
+use Rattle.answers.proofs.DecideLaws.{not-decides, and-decides, or-decides, any-decides}
 use Rattle.answers.proofs.VerdictLaws.{Decided, Anything, decided-none, decided-then}
 use Rattle.checker.specs.Judge.{judgeVerdict}
 use Rattle.checker.specs.JudgeCauses.{judgeCauses, judgeNumber}
@@ -90,4 +91,5 @@ module _ (left right c : List ℕ) (side start : ℕ) (path states blocks : List
   pub follow-numbers : Numbered followNumber (followCauses left right c side start path states blocks)
   follow-numbers =
       numbered-append followNumber (judgeCauses left right c) _
-      (all-imply _ _ (λ x. or-l (judgeNumber (x .numbers .code) (x .numbers .file)) _) (judgeCauses left right c) (judge-numbers left right c)) (tt, (tt, (tt, tt)))
+      (all-imply _ _ (λ x. or-l (judgeNumber (x .numbers .code) (x .numbers .file)) _) (judgeCauses left right c) (judge-numbers left right c))
+      (tt, (tt, (tt, tt)))
