@@ -13,8 +13,9 @@ use Rattle.lists.proofs.FillLaws.{getD-past}
 use Rattle.words.specs.Bits.{hasBit, addBit, hasFrom, countBits, firstBit}
 use Rattle.bisimulation.specs.PathProperty.{PathProperty}
 use Rattle.bisimulation.specs.Judge.{is2a, is2b, is2c}
-use Rattle.bisimulation.specs.Matcher.{smallestEntered}
-use Rattle.bisimulation.specs.Triples.{ahead}
+use Rattle.bisimulation.specs.Matcher.{smallestEntered, smallestStep, moves, matchSteps, matchPath}
+use Rattle.bisimulation.specs.PathMatching.{stepsAlong, numberedFrom, followed, givenEntries, matchingEntries}
+use Rattle.bisimulation.specs.Triples.{ahead, stepOf}
 use Rattle.bisimulation.specs.Systems.{stepsFrom}
 use Rattle.bisimulation.specs.Maker.{matchesWithin, matched, distance, mayChain, chainAlong, stutterRank, matchRank}
 use Rattle.tables.specs.Table.{
@@ -51,7 +52,18 @@ use Rattle.ranking.specs.Make.{roomVerdict, fileFor, madeVerdict, makeVerdict, 
 use Rattle.checker.specs.Judge.{pairsIn, judged, judgedBytes, judgeVerdict, judgeAnswer}
 use Rattle.demands.specs.Demand2.{WellFormedInputs}
 use Rattle.lister.specs.Listing.{checkLines, listing, listingOf}
-use Rattle.demands.specs.Examples.{line, six, P, Q, rowsPQ, K, certificate, low, zeros, still, looping, stillCertificate}
+use Rattle.path_matcher.specs.Following.{
+  hasStep,
+  wrongPath,
+  wrongStart,
+  noRoom,
+  matchVerdict,
+  followVerdict,
+  followAnswer,
+  followStates,
+  followBlocks,
+}
+use Rattle.demands.specs.Examples.{line, six, run, P, Q, rowsPQ, K, certificate, low, zeros, still, looping, stillCertificate}
 use Rattle.demands.proofs.MakerAnswers.{made-given}
 use Rattle.demands.proofs.MakerExact.{maker-exact}
 
@@ -84,6 +96,28 @@ unfolding
     labelsPart stepsPart labelOf fromOf toOf systemOf sizesOf alAt arAt clAt crAt rowsPart rowOf relatedIn viewOf ranksOf
     smallestEntered outcomeAfter2a isApart obligationAt joinBelow stepsFrom pairChecks checksBy checks mostBelow flatMap checkLines listing
 listed = refl
+
+-- P's run 0 1 0, in the blocks 0 1 2, is followed on Q by 0 1 2 0, in the blocks 0 0 1 2; 11 or 5 bytes are too few, the side 2 and an empty path are wrong,
+-- and so are the starts 2, which is not related, and 3, which is no state; Q's run 0 1 2 0, in the blocks 0 0 1 2, is followed on P by 0 1 0
+pub followed-PQK : (followAnswer P Q K 0 0 run (zeros 12) (zeros 6) ≡ six 0 0 4 0 0 0)
+    × (followStates P Q K 0 0 run (zeros 12) (zeros 6) ≡ 0 ∷ 0 ∷ 0 ∷ 1 ∷ 0 ∷ 0 ∷ 2 ∷ 0 ∷ 1 ∷ 0 ∷ 0 ∷ 2 ∷ [])
+    × (followBlocks P Q K 0 0 run (zeros 12) (zeros 6) ≡ 0 ∷ 0 ∷ 0 ∷ 1 ∷ 0 ∷ 2 ∷ [])
+    × (followAnswer P Q K 0 0 run (zeros 11) (zeros 6) ≡ six 27 3 0 0 0 0)
+    × (followAnswer P Q K 0 0 run (zeros 12) (zeros 5) ≡ six 27 3 0 0 0 0)
+    × (followAnswer P Q K 2 0 run (zeros 12) (zeros 6) ≡ six 25 4 0 0 0 0)
+    × (followAnswer P Q K 0 0 [] (zeros 12) (zeros 6) ≡ six 25 4 0 0 0 0)
+    × (followAnswer P Q K 0 2 run (zeros 12) (zeros 6) ≡ six 26 4 0 0 0 0)
+    × (followAnswer P Q K 0 3 run (zeros 12) (zeros 6) ≡ six 26 4 0 0 0 0)
+    × (followStates P Q K 1 0 (0 ∷ 1 ∷ 2 ∷ 0 ∷ []) (zeros 9) (zeros 8) ≡ 0 ∷ 0 ∷ 0 ∷ 1 ∷ 0 ∷ 1 ∷ 0 ∷ 0 ∷ 2 ∷ [])
+    × (followBlocks P Q K 1 0 (0 ∷ 1 ∷ 2 ∷ 0 ∷ []) (zeros 9) (zeros 8) ≡ 0 ∷ 0 ∷ 0 ∷ 0 ∷ 0 ∷ 1 ∷ 0 ∷ 2 ∷ [])
+unfolding
+    anyBelow firstBelow bigEndian hasBit hasFrom is2a is2b is2c magicFits versionOf versionFits statesOf statesFit startOf stepsOf tableLength
+    labelsAt stepsAt stepsEnd labelsPart stepsPart labelOf fromOf toOf endsOutside sameStep doubled readSizes readHeader readSteps readTable systemOf
+    sizesOf certificateLength alAt arAt clAt rowsPart rowOf certificateSizesFit wideRow readRows readCertificate certificates.readHeader relatedIn
+    viewOf ranksOf smallestEntered outcomeAfter2a obligationAt joinBelow stepsFrom pairChecks checksBy checks along startsVerdict checkVerdict judged
+    judgedBytes judgeVerdict mostBelow smallestStep moves matchSteps matchPath stepOf stepsAlong numberedFrom followed givenEntries matchingEntries
+    flatMap bigBytes putFront hasStep wrongPath wrongStart noRoom matchVerdict followVerdict followAnswer followStates followBlocks
+followed-PQK = (refl, refl, refl, refl, refl, refl, refl, refl, refl, refl, refl)
 
 -- K has 51 bytes, and the maker writes exactly K, into an output of 51 bytes or at the front of a longer one; 50 bytes are too few
 pub made-K : (length K ≡ 51)

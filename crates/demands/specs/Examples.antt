@@ -34,6 +34,10 @@ certificate row0 row1 ar cl =
 abbrev pub K : List ℕ
 K = certificate 3 4 1 1
 
+-- A run of P: the states 0, 1 and 0.
+abbrev pub run : List ℕ
+run = 0 ∷ 1 ∷ 0 ∷ []
+
 -- The relation of P and Q: the rows 3 and 4.
 abbrev pub rowsPQ : List ℕ
 rowsPQ = low 3 ++ low 4
