@@ -17,7 +17,7 @@ pub fn judge(left: &[u8], right: &[u8], certificate: &[u8]) -> Answer {
 /// "The outcome of a duty is met, carrying which of the three clauses, or
 /// failed, carrying 18 or 19." "The test of one duty shall say, beside the clause,
 /// the smallest state v that serves it, and t itself for 2b": the answering state.
-enum Outcome {
+pub enum Outcome {
     Met(Clause, usize),
     Failed(u64),
 }
@@ -67,7 +67,7 @@ pub fn accept(
 }
 
 /// "It is met by the first of these that holds"
-fn outcome(side: &Side, ranks: &Ranks, duty: Duty) -> Outcome {
+pub fn outcome(side: &Side, ranks: &Ranks, duty: Duty) -> Outcome {
     if let Some(v) = clause_2a(side, duty) {
         Outcome::Met(Clause::TwoA, v)
     } else if clause_2b(side, ranks, duty) {

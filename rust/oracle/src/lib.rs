@@ -1,11 +1,13 @@
-//! A plain judge and a plain maker of stuttering certificates.
+//! A plain judge and a plain maker of stuttering certificates, and a plain follower of
+//! runs.
 //!
-//! Every notion of the scope document has one function here, and the comment
-//! above it quotes the sentence it follows, so that the two can be read side by
-//! side. Nothing is tuned for speed; `tuned` and `tuned_maker` are, and are checked
-//! against the rest.
+//! Every notion of the scope document and of the change requests has one function
+//! here, and the comment above it quotes the sentence it follows, so that the two can
+//! be read side by side. Nothing is tuned for speed; `tuned`, `tuned_maker` and
+//! `tuned_follow` are, and are checked against the rest.
 
 mod certificate;
+mod follow;
 mod judge;
 mod listing;
 mod maker;
@@ -14,9 +16,11 @@ mod program;
 mod side;
 mod table;
 pub mod tuned;
+pub mod tuned_follow;
 pub mod tuned_maker;
 
 pub use certificate::Layout;
+pub use follow::follow;
 pub use judge::judge;
 pub use listing::{list, listing_program, Line};
 pub use maker::{make, make_by_relaxing};

@@ -19,22 +19,29 @@ pub(crate) struct Table<'a> {
 /// One direction of judging. `related[s]` has a bit for each state of the other
 /// table that is related to the own state s: the rows for the left side, the
 /// columns for the right one.
-struct Side<'a> {
-    own: &'a Table<'a>,
-    other: &'a Table<'a>,
-    related: &'a [u64; 64],
-    stutter: &'a [u8],
-    chase: &'a [u8],
+pub(crate) struct Side<'a> {
+    pub own: &'a Table<'a>,
+    pub other: &'a Table<'a>,
+    pub related: &'a [u64; 64],
+    pub stutter: &'a [u8],
+    pub chase: &'a [u8],
 }
 
 /// The six numbers of the judge.
 pub fn judge(left: &[u8], right: &[u8], certificate: &[u8]) -> Answer {
-    match accept(left, right, certificate) {
+    match accept(left, right, certificate, |_, answer| Ok(answer)) {
         Ok(answer) | Err(answer) => answer,
     }
 }
 
-fn accept(left: &[u8], right: &[u8], certificate: &[u8]) -> Result<Answer, Answer> {
+/// Where the judge accepts, `then` is given the two sides and the six numbers.
+#[inline]
+pub(crate) fn accept(
+    left: &[u8],
+    right: &[u8],
+    certificate: &[u8],
+    then: impl FnOnce(&[Side; 2], Answer) -> Result<Answer, Answer>,
+) -> Result<Answer, Answer> {
     let left = read_table(left, 0)?;
     let right = read_table(right, 1)?;
     let (n1, n2) = (left.states, right.states);
@@ -80,7 +87,7 @@ fn accept(left: &[u8], right: &[u8], certificate: &[u8]) -> Result<Answer, Answe
         }
     }
     let pairs: u32 = rows.iter().map(|row| row.count_ones()).sum();
-    Ok([0, 0, pairs as u64, met[0], met[1], met[2]])
+    then(&sides, [0, 0, pairs as u64, met[0], met[1], met[2]])
 }
 
 /// Judges the steps from the own state s at the other state t, and counts the

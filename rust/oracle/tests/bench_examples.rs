@@ -1,7 +1,7 @@
 //! The bench examples of the scope document. The first tests hold the starred
-//! ones, byte by byte; the others follow, and then the listing.
+//! ones, byte by byte; the others follow, then the listing and the follower.
 
-use oracle::{judge, list, listing_program, make, path_property, program, tuned, Answer};
+use oracle::{follow, judge, list, listing_program, make, path_property, program, tuned, Answer};
 
 const P: [u8; 17] = [
     0x54, 0x50, 0x54, 0x00, 0x01, 0x02, 0x00, 0x00, 0x02, // header
@@ -391,4 +391,123 @@ fn without_a_duty_nothing_is_printed() {
     let made = certificate(&still, &still, &[1]);
     judged(&still, &still, &made, "0 0 1 0 0 0");
     listed(&still, &still, &made, &[]);
+}
+
+/// A run to be followed: the path's side, the start on the other side, the path.
+type Run<'a> = (u64, u64, &'a [u8]);
+
+/// Calls the follower with outputs of these lengths, full of 0xEE.
+fn follow_run(
+    files: [&[u8]; 3],
+    (side, start, path): Run,
+    lengths: [usize; 2],
+) -> (Answer, [Vec<u8>; 2]) {
+    let [left, right, certificate] = files;
+    let mut outputs = lengths.map(|length| vec![0xEE; length]);
+    let [states, blocks] = &mut outputs;
+    let answer = follow(left, right, certificate, side, start, path, states, blocks);
+    (answer, outputs)
+}
+
+/// The follower writes these bytes, and later ones stay.
+#[track_caller]
+fn followed(files: [&[u8]; 3], run: Run, lengths: [usize; 2], states: &[u8], blocks: &[u8]) {
+    let (answer, outputs) = follow_run(files, run, lengths);
+    assert_eq!(answer, [0, 0, states.len() as u64 / 3, 0, 0, 0]);
+    for (output, written) in outputs.iter().zip([states, blocks]) {
+        let (front, rest) = output.split_at(written.len());
+        assert_eq!(front, written);
+        assert!(rest.iter().all(|&byte| byte == 0xEE));
+    }
+}
+
+/// The follower refuses, and both outputs stay.
+#[track_caller]
+fn not_followed(files: [&[u8]; 3], run: Run, lengths: [usize; 2], code: u64, file: u64) {
+    let (answer, outputs) = follow_run(files, run, lengths);
+    assert_eq!(answer, [code, file, 0, 0, 0, 0]);
+    assert_eq!(outputs, lengths.map(|length| vec![0xEE; length]));
+}
+
+/// P steps on at once. Q pauses first, by 2c, and then follows by 2a.
+#[test]
+fn a_run_of_p_followed_by_q() {
+    let files: [&[u8]; 3] = [&P, &Q, &K];
+    let run: Run = (0, 0, &[0, 1, 0, 1]);
+    let states = [0, 0, 0, 1, 0, 0, 2, 0, 1, 0, 0, 2, 1, 0, 2, 2, 0, 3];
+    let blocks = [0, 0, 0, 1, 0, 2, 0, 3];
+    followed(files, run, [18, 8], &states, &blocks);
+    followed(files, run, [49_152, 512], &states, &blocks);
+    for lengths in [[17, 8], [18, 7], [0, 8], [18, 0], [0, 0]] {
+        not_followed(files, run, lengths, 27, 3);
+    }
+    // From the pause on there is nothing to wait for.
+    let run: Run = (0, 1, &[0, 1]);
+    followed(files, run, [9, 9], &[1, 0, 0, 2, 0, 1], &[0, 0, 0, 1]);
+}
+
+/// The pause of Q is answered by 2b: P stays where it is, in the same block.
+#[test]
+fn a_run_of_q_followed_by_p() {
+    let states = [0, 0, 0, 1, 0, 1, 0, 0, 2];
+    let blocks = [0, 0, 0, 0, 0, 1, 0, 2];
+    let run: Run = (1, 0, &[0, 1, 2, 0]);
+    followed([&P, &Q, &K], run, [20, 10], &states, &blocks);
+}
+
+/// Right state 2 steps to 3 and to 1, right state 1 to 3 and to 0, right state 0 to 3:
+/// the dead end 3 is reached by way of all of them.
+#[test]
+fn a_dead_end_is_followed_by_smallest_steps() {
+    let left = table(0, &[0], &[]);
+    let steps = [[2, 3], [2, 1], [1, 3], [1, 0], [0, 3]];
+    let right = table(2, &[0; 4], &steps);
+    let made = certificate(&left, &right, &[0b1111]);
+    let files: [&[u8]; 3] = [&left, &right, &made];
+    let states = [2, 0, 0, 1, 0, 0, 0, 0, 0, 3, 0, 0];
+    followed(files, (0, 2, &[0]), [12, 2], &states, &[0, 0]);
+    followed(files, (0, 3, &[0]), [12, 2], &[3, 0, 0], &[0, 0]);
+    // A path that could still go on is followed to its end and no further.
+    let made = certificate(&right, &right, &[0b0001, 0b0010, 0b0100, 0b1000]);
+    let files: [&[u8]; 3] = [&right, &right, &made];
+    let (states, blocks) = ([2, 0, 0, 1, 0, 1], [0, 0, 0, 1]);
+    followed(files, (0, 2, &[2, 1]), [12, 4], &states, &blocks);
+}
+
+/// "all three after the judge's own refusals, in this order"
+#[test]
+fn refused_runs() {
+    let files: [&[u8]; 3] = [&P, &Q, &K];
+    let longest: Vec<u8> = [0, 1].repeat(129);
+    let wrong_paths: [Run; 9] = [
+        (2, 9, &[0]),
+        (u64::MAX, 0, &[0]),
+        (0, 0, &[]),
+        (0, 0, &longest[..257]),
+        (0, 0, &[0, 1, 2]),
+        (1, 9, &[0, 1, 2, 3]),
+        (0, 0, &[255]),
+        (0, 0, &[0, 0]),
+        (1, 0, &[0, 2]),
+    ];
+    for run in wrong_paths {
+        not_followed(files, run, [0, 0], 25, 4);
+        not_followed(files, run, [2_000, 600], 25, 4);
+        not_followed([&P, &Q, &K[..50]], run, [0, 0], 14, 2);
+    }
+    let wrong_starts: [Run; 7] = [
+        (0, 2, &[0]),
+        (0, 3, &[0]),
+        (0, 1, &[1, 0]),
+        (0, 1 << 32, &[0]),
+        (0, u64::MAX, &[0]),
+        (1, 1, &[1]),
+        (1, 2, &[2, 0]),
+    ];
+    for run in wrong_starts {
+        not_followed(files, run, [0, 0], 26, 4);
+        not_followed(files, run, [2_000, 600], 26, 4);
+        not_followed([&P[..8], &Q, &K], run, [0, 0], 1, 0);
+    }
+    not_followed(files, (0, 0, &longest[..256]), [0, 0], 27, 3);
 }
