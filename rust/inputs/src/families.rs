@@ -23,6 +23,12 @@ pub fn any_system(random: &mut Random, versions: &[u16]) -> System {
     in_some_form(random, system, versions)
 }
 
+/// Rings with a choice of clauses, each table in one of these versions.
+pub fn any_pruned_rings(random: &mut Random, versions: &[u16]) -> System {
+    let system = pruned_rings(random);
+    in_some_form(random, system, versions)
+}
+
 /// A layered system, each table in one of these versions.
 pub fn any_layered_system(random: &mut Random, versions: &[u16]) -> System {
     let system = layered_system(random);
@@ -65,6 +71,27 @@ pub fn pruned_system(random: &mut Random) -> System {
         let related = relation(&left, &right, |s, t| {
             left.marks[s] == right.marks[t] && random.percent(density)
         });
+        let system = prune(System {
+            left,
+            right,
+            related,
+        });
+        if !system.pairs().is_empty() {
+            return system;
+        }
+    }
+}
+
+/// Two small rings, and what pruning leaves of a random relation. Where a state and the
+/// next one are both related to a state, but not to the next one there, 2b and 2c may
+/// hold of the same step.
+pub fn pruned_rings(random: &mut Random) -> System {
+    loop {
+        let (mut left, mut right) = (ring(random.within(2, 6)), ring(random.within(2, 6)));
+        random.shuffle(&mut left.steps);
+        random.shuffle(&mut right.steps);
+        let density = random.pick(&[50, 70, 85]);
+        let related = relation(&left, &right, |_, _| random.percent(density));
         let system = prune(System {
             left,
             right,
@@ -242,18 +269,7 @@ fn renumbered(random: &mut Random, last: usize, mut steps: Vec<Step>) -> Table {
 /// second is chased all the way round: the highest chase rank there can be.
 pub fn round_trip(random: &mut Random) -> System {
     let states = random.pick(&[2, 3, 63, 64]);
-    let cycle = |states: usize| Table {
-        version: 1,
-        start: 0,
-        marks: vec![0x0101; states],
-        steps: (0..states)
-            .map(|from| Step {
-                from,
-                to: (from + 1) % states,
-            })
-            .collect(),
-    };
-    let (left, mut right) = (cycle(2), cycle(states));
+    let (left, mut right) = (ring(2), ring(states));
     right.start = random.below(states);
     let met = random.below(states);
     let related = relation(&left, &right, |s, t| s == 0 || t == met);
@@ -261,6 +277,20 @@ pub fn round_trip(random: &mut Random) -> System {
         left,
         right,
         related,
+    }
+}
+
+/// States with one mark, each stepping to the next and the last to the first.
+fn ring(states: usize) -> Table {
+    let step = |from| Step {
+        from,
+        to: (from + 1) % states,
+    };
+    Table {
+        version: 1,
+        start: 0,
+        marks: vec![0x0101; states],
+        steps: (0..states).map(step).collect(),
     }
 }
 
@@ -363,6 +393,20 @@ pub fn long_distances() -> System {
     }
 }
 
+/// Two left states that step to each other, and a ring of 64 right states. The left
+/// state 0 is related to all of them but the last one, and the left state 1 to this one
+/// only. So each second step of the left path 0 1 0 1 .. is followed all the way round:
+/// 256 states of it give 8,192.
+pub fn long_waits() -> System {
+    let (left, right) = (ring(2), ring(64));
+    let related = relation(&left, &right, |s, t| (s == 1) == (t == 63));
+    System {
+        left,
+        right,
+        related,
+    }
+}
+
 /// No step at all, and states with equal marks related.
 pub fn stepless_system(random: &mut Random) -> System {
     let mut table = || {
@@ -426,8 +470,9 @@ mod tests {
     #[test]
     fn certificates_can_be_made() {
         let mut random = Random::new(1);
-        let families: [(&str, fn(&mut Random) -> System); 9] = [
+        let families: [(&str, fn(&mut Random) -> System); 10] = [
             ("pruned", pruned_system),
+            ("pruned rings", pruned_rings),
             ("thinned", thinned_system),
             ("split", split_system),
             ("cycles", cycles),

@@ -122,7 +122,8 @@ pub fn edit_table(random: &mut Random, table: &mut Vec<u8>) -> &'static str {
     label
 }
 
-fn edit_certificate(
+/// Changes the bytes of a certificate.
+pub fn edit_certificate(
     random: &mut Random,
     system: &System,
     certificate: &mut Vec<u8>,
@@ -148,7 +149,7 @@ fn edit_certificate(
 
 /// One of the changes, and sometimes a second one that stands later in the list
 /// and is to be made before it, so that the order of the causes is tested.
-fn one_or_two<T: Copy>(random: &mut Random, edits: &[T]) -> (T, Option<T>) {
+pub fn one_or_two<T: Copy>(random: &mut Random, edits: &[T]) -> (T, Option<T>) {
     let (i, j) = (random.below(edits.len()), random.below(edits.len()));
     let second = (i != j && random.percent(20)).then(|| edits[i.max(j)]);
     let first = if second.is_some() { i.min(j) } else { i };

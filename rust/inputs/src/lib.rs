@@ -1,26 +1,32 @@
-//! Inputs for the judge, the maker and the two programs: the same ones for the same
-//! seed. `JudgeCases`, `MakeCases`, `ProgramCases` and `ListingCases` are iterators
-//! over them.
+//! Inputs for the judge, the maker, the follower and the two programs: the same ones for
+//! the same seed. `JudgeCases`, `MakeCases`, `FollowCases`, `ProgramCases` and
+//! `ListingCases` are iterators over them.
 
 mod byte_edits;
 mod certificate_edits;
+mod certified;
 mod families;
+mod follow_cases;
 mod judge_cases;
 mod listing_cases;
 mod make_cases;
 mod program_cases;
 mod random;
+mod run_edits;
 mod spaced;
 mod split;
 mod system;
 mod system_edits;
 mod table_edits;
+mod walks;
 
-pub use families::{all_related, any_system, long_chains, long_distances};
+pub use families::{all_related, any_system, long_chains, long_distances, long_waits};
+pub use follow_cases::{FollowCase, FollowCases};
 pub use judge_cases::{JudgeCase, JudgeCases};
 pub use listing_cases::ListingCases;
 pub use make_cases::{MakeCase, MakeCases};
 pub use program_cases::{joined, ProgramCase, ProgramCases, PROGRAM_FORMS};
 pub use random::Random;
+pub use run_edits::{Run, RUN_EDITS};
 pub use spaced::spaced;
 pub use system::{relation_bytes, save_in, table_bytes, System, VERSIONS};

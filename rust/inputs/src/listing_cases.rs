@@ -1,11 +1,11 @@
 //! Inputs for the listing program: those of the judge's program, many more that are
 //! accepted, and the fullest systems.
 
-use crate::certificate_edits::{EQUAL_EDITS, RANK_EDITS};
-use crate::families::{all_related, any_layered_system, any_system, long_chains, long_distances};
+use crate::certified::{any_certified, changed, in_all_forms};
+use crate::families::{all_related, long_chains, long_distances};
 use crate::program_cases::{input_of_form, ProgramCase, ProgramCases, PROGRAM_FORMS};
 use crate::random::Random;
-use crate::system::{System, VERSIONS};
+use crate::system::System;
 
 /// Gives `count` inputs for the listing program, the fullest systems last.
 pub struct ListingCases {
@@ -29,7 +29,8 @@ impl ListingCases {
     pub fn new(seed: u64, count: usize) -> ListingCases {
         let mut random = Random::new(seed ^ (1 << 63));
         let made = made(&mut random);
-        let fullest = fullest(&mut random);
+        let fullest = [long_distances(), long_chains(), all_related()];
+        let fullest = in_all_forms(&mut random, &fullest);
         ListingCases {
             random,
             program_cases: ProgramCases::new(seed, count),
@@ -50,13 +51,7 @@ impl ListingCases {
         let random = &mut self.random;
         let system = &self.made.system;
         let (left, right) = (system.left_bytes(), system.right_bytes());
-        let mut certificate = self.made.certificate.clone();
-        let edits = random.pick(&[EQUAL_EDITS, RANK_EDITS]);
-        let (_, edit) = random.pick(edits);
-        edit(random, system, &mut certificate);
-        if oracle::judge(&left, &right, &certificate)[0] != 0 {
-            certificate.clone_from(&self.made.certificate);
-        }
+        let certificate = changed(random, system, &self.made.certificate);
         let label = random.pick(&["three whole pieces", "trailing bytes"]);
         let input = input_of_form(random, [left, right, certificate], label);
         ProgramCase { input, label }
@@ -84,33 +79,10 @@ impl Iterator for ListingCases {
 
 /// A system for which a certificate can be made.
 fn made(random: &mut Random) -> Made {
-    loop {
-        let system = if random.percent(10) {
-            any_layered_system(random, VERSIONS)
-        } else {
-            any_system(random, VERSIONS)
-        };
-        let (answer, certificate) = system.make();
-        if answer[0] == 0 {
-            return Made {
-                system,
-                certificate,
-                remaining: CASES_PER_SYSTEM,
-            };
-        }
+    let (system, certificate) = any_certified(random);
+    Made {
+        system,
+        certificate,
+        remaining: CASES_PER_SYSTEM,
     }
-}
-
-/// The fullest systems and those with left and right exchanged, the steps in any order
-/// where the version lets them.
-fn fullest(random: &mut Random) -> Vec<System> {
-    let mut systems = Vec::new();
-    for system in [long_distances(), long_chains(), all_related()] {
-        for mut system in [system.clone(), system.exchanged()] {
-            random.shuffle(&mut system.left.steps);
-            random.shuffle(&mut system.right.steps);
-            systems.extend(system.in_all_versions());
-        }
-    }
-    systems
 }

@@ -31,6 +31,11 @@ impl System {
         relation_bytes(&self.related)
     }
 
+    /// The table of a side, 0 left and 1 right.
+    pub fn table(&self, side: usize) -> &Table {
+        [&self.left, &self.right][side]
+    }
+
     /// The related pairs, left state first.
     pub fn pairs(&self) -> Vec<(usize, usize)> {
         let mut pairs = Vec::new();
@@ -56,12 +61,17 @@ impl System {
         (answer, output)
     }
 
-    /// Both tables and the certificate made, as an input for the programs. It is made by
-    /// the tuned maker, which writes the same and is fast on the fullest systems too.
-    pub fn input(&self) -> Vec<u8> {
+    /// The certificate made. It is made by the tuned maker, which writes the same and is
+    /// fast on the fullest systems too.
+    pub fn certificate(&self) -> Vec<u8> {
         let (answer, certificate) = self.make_by(oracle::tuned_maker::make);
         assert_eq!(answer[0], 0, "no certificate is made");
-        joined(&[self.left_bytes(), self.right_bytes(), certificate])
+        certificate
+    }
+
+    /// Both tables and the certificate made, as an input for the programs.
+    pub fn input(&self) -> Vec<u8> {
+        joined(&[self.left_bytes(), self.right_bytes(), self.certificate()])
     }
 
     /// A certificate with this relation and ranks from 0 to `highest`.
@@ -72,6 +82,18 @@ impl System {
             bytes.push(random.within(0, highest) as u8);
         }
         bytes
+    }
+
+    /// The same tables with the relation of this certificate, which fits them.
+    pub fn with_rows_of(&self, certificate: &[u8]) -> System {
+        let mut system = self.clone();
+        for (s, row) in system.related.iter_mut().enumerate() {
+            let place = self.layout().row(s);
+            for (t, pair) in row.iter_mut().enumerate() {
+                *pair = certificate[place + 7 - t / 8] >> (t % 8) & 1 == 1;
+            }
+        }
+        system
     }
 
     /// The same system with its tables in every mix of the versions.
