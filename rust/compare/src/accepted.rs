@@ -23,10 +23,13 @@ impl<'a> Accepted<'a> {
     /// The files of this input, where the judge accepts it.
     pub fn new(input: &'a [u8]) -> Option<Accepted<'a>> {
         let [left, right, certificate] = oracle::pieces(input);
-        if oracle::judge(left, right, certificate)[0] != 0 {
-            return None;
-        }
-        Some(Accepted {
+        let accepted = oracle::judge(left, right, certificate)[0] == 0;
+        accepted.then(|| Accepted::of(left, right, certificate))
+    }
+
+    /// Files that the judge accepts.
+    pub fn of(left: &'a [u8], right: &'a [u8], certificate: &'a [u8]) -> Accepted<'a> {
+        Accepted {
             tables: [left, right],
             certificate,
             layout: Layout {
@@ -35,7 +38,7 @@ impl<'a> Accepted<'a> {
                 m1: steps(left).count(),
                 m2: steps(right).count(),
             },
-        })
+        }
     }
 
     /// The end u of the duty's step.
@@ -57,6 +60,16 @@ impl<'a> Accepted<'a> {
     pub fn waiting(&self, line: Line) -> Vec<u64> {
         let duty = self.duty(line);
         self.ends(duty, |v| self.related(duty.side, duty.s, v))
+    }
+
+    /// 2b holds of the duty: its step's end and t are related, and the A rank falls.
+    pub fn pauses(&self, line: Line) -> bool {
+        let Duty { side, s, t, u, .. } = self.duty(line);
+        let rank = |state| {
+            let places = [Layout::al, Layout::ar];
+            self.certificate[places[side](&self.layout, state, t)]
+        };
+        self.related(side, u, t) && rank(u) < rank(s)
     }
 
     fn duty(&self, line: Line) -> Duty {
@@ -82,7 +95,7 @@ impl<'a> Accepted<'a> {
 
     fn related(&self, side: usize, own: usize, other: usize) -> bool {
         let (s, t) = [(own, other), (other, own)][side];
-        self.certificate[self.layout.row(s) + 7 - t / 8] >> (t % 8) & 1 == 1
+        related(self.certificate, s, t)
     }
 
     /// The C rank of the duty's step at v is below that at t.
@@ -95,12 +108,17 @@ impl<'a> Accepted<'a> {
     }
 }
 
-fn states(table: &[u8]) -> usize {
+/// The left state s and the right state t are related.
+pub fn related(certificate: &[u8], s: usize, t: usize) -> bool {
+    certificate[11 + 8 * s + 7 - t / 8] >> (t % 8) & 1 == 1
+}
+
+pub fn states(table: &[u8]) -> usize {
     table[5] as usize
 }
 
 /// The steps of a table, each from and to.
-fn steps(table: &[u8]) -> impl Iterator<Item = (usize, usize)> + '_ {
+pub fn steps(table: &[u8]) -> impl Iterator<Item = (usize, usize)> + '_ {
     let steps = &table[9 + 2 * states(table)..];
     steps
         .chunks_exact(2)

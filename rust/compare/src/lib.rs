@@ -3,14 +3,19 @@
 //! was seen.
 
 mod accepted;
+mod follow;
 mod listing;
+mod matching;
 mod names;
 mod path_property;
 mod report;
+mod runs_seen;
 
 pub use accepted::Accepted;
+pub use follow::follow;
 use inputs::{JudgeCases, MakeCases, ProgramCases, Random, PROGRAM_FORMS, VERSIONS};
 pub use listing::listing;
+pub use matching::{Block, Given};
 use names::{limit_names, mix_name, mix_names, name, names, size_names, table_codes};
 pub use path_property::Implementation;
 pub use report::Report;

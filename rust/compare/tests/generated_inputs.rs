@@ -1,5 +1,5 @@
-//! The oracle beside the tuned judge and maker and beside itself, on enough inputs
-//! that every number, side, clause and limit is seen, and beside wrong ones.
+//! The oracle beside the tuned judge, maker and follower and beside itself, on enough
+//! inputs that every number, side, clause and limit is seen, and beside wrong ones.
 
 use compare::Accepted;
 use inputs::{all_related, long_chains, long_distances};
@@ -18,6 +18,11 @@ fn the_tuned_maker_equals_the_plain_one() {
 #[test]
 fn the_relaxing_maker_equals_the_plain_one() {
     compare::make(30_000, 8, oracle::make_by_relaxing).require_all();
+}
+
+#[test]
+fn the_tuned_follower_equals_the_plain_one() {
+    compare::follow(30_000, 13, oracle::tuned_follow::follow).require_all();
 }
 
 #[test]
@@ -61,6 +66,10 @@ fn the_same_seed_gives_the_same_inputs() {
     let inputs = |seed| inputs::ListingCases::new(seed, 3_000).map(|case| case.input);
     assert!(inputs(4).eq(inputs(4)), "the inputs differ");
     assert!(inputs(4).ne(inputs(5)), "the inputs are the same");
+
+    let runs = |seed| compare::follow(3_000, seed, oracle::follow).seen;
+    assert_eq!(runs(4), runs(4));
+    assert_ne!(runs(4), runs(5));
 }
 
 /// The answer of a judge that accepts everything is found out.
@@ -87,6 +96,12 @@ fn a_touched_output_is_found() {
 #[should_panic(expected = "never seen")]
 fn too_few_inputs_are_found() {
     compare::judge(20, 8, oracle::judge).require_all();
+}
+
+#[test]
+#[should_panic(expected = "never seen")]
+fn too_few_runs_are_found() {
+    compare::follow(20, 8, oracle::follow).require_all();
 }
 
 #[test]

@@ -1,0 +1,224 @@
+//! What a comparison of followers must see, and how it is seen.
+
+use crate::accepted::{steps, Accepted};
+use crate::matching::{Block, Given};
+use crate::names::{mix_name, mix_names, name, names, table_codes};
+use crate::report::Report;
+use crate::Answer;
+use inputs::{FollowCase, RUN_EDITS, VERSIONS};
+use oracle::Line;
+
+const SIDES: [&str; 2] = ["left", "right"];
+const OUTPUTS: [&str; 2] = ["first", "second"];
+
+/// By what a state is answered or written: one of the clauses, or the way on to a dead
+/// end.
+const CLAUSES: [&str; 3] = ["2a", "2b", "2c"];
+const GOING_ON: &str = "going on";
+
+/// What can be special about a choice: a follower that chose otherwise would differ.
+const NOT_THE_FIRST: &str = "the first step's end is greater";
+const RANK_DECIDES: &str = "a smaller state's rank does not fall";
+const ALSO_2B: &str = "2b holds too";
+const ALSO_2C: &str = "2c holds too";
+
+const SPECIAL_CHOICES: [(&str, &str); 7] = [
+    ("2a", NOT_THE_FIRST),
+    ("2a", ALSO_2B),
+    ("2a", ALSO_2C),
+    ("2b", ALSO_2C),
+    ("2c", NOT_THE_FIRST),
+    ("2c", RANK_DECIDES),
+    (GOING_ON, NOT_THE_FIRST),
+];
+
+/// What can be special about a run that is followed.
+type SpecialRun = (&'static str, fn(&Given, &[Block]) -> bool);
+
+const SPECIAL_RUNS: [SpecialRun; 10] = [
+    ("a path of 1 state", |given, _| given.path.len() == 1),
+    ("a path of 256 states", |given, _| given.path.len() == 256),
+    ("a path not from its table's start", |given, _| {
+        given.path[0] != given.own()[6]
+    }),
+    ("a start not its table's", |given, _| {
+        given.start != u64::from(given.other()[6])
+    }),
+    ("a dead end at once", |given, blocks| {
+        let last = last(blocks);
+        let end = last.given[last.given.len() - 1];
+        last.written.len() == 1 && steps(given.own()).all(|(from, _)| from != end)
+    }),
+    ("256 blocks", |_, blocks| blocks.len() == 256),
+    ("a block of 64 states given", |_, blocks| {
+        blocks.iter().any(|block| block.given.len() == 64)
+    }),
+    ("a block of 64 states by 2c", |_, blocks| {
+        let before_last = &blocks[..blocks.len() - 1];
+        before_last.iter().any(|block| block.written.len() == 64)
+    }),
+    ("a block of 64 states going on", |_, blocks| {
+        last(blocks).written.len() == 64
+    }),
+    ("8,192 states written", |_, blocks| {
+        states_written(blocks) == 8_192
+    }),
+];
+
+/// Which refusal comes first where there are causes for two.
+const ORDERS: [[&str; 2]; 6] = [
+    ["the judge's", "25"],
+    ["the judge's", "26"],
+    ["the judge's", "27"],
+    ["25", "26"],
+    ["25", "27"],
+    ["26", "27"],
+];
+
+const A_THIRD: &str = "followed, at least one in three";
+
+pub fn required() -> Vec<String> {
+    let codes = table_codes(VERSIONS).chain(10..=19).chain(25..=27);
+    let mut required = names("followed", codes);
+    required.push(A_THIRD.to_string());
+    required.extend(RUN_EDITS.iter().map(|(label, _)| label.to_string()));
+    required.extend(ORDERS.map(|[first, then]| format!("{first} before {then}")));
+    required.extend(mix_names("followed", VERSIONS));
+    required.extend(SPECIAL_RUNS.map(|(special, _)| format!("followed, {special}")));
+    for output in OUTPUTS {
+        required.push(format!("followed, {output} output exact"));
+        required.push(format!("followed, {output} output longer"));
+    }
+    for side in SIDES {
+        required.extend(CLAUSES.map(|clause| format!("{side} {clause}")));
+        required.push(format!("{side} {GOING_ON}"));
+        required.extend(SPECIAL_CHOICES.map(|(way, special)| format!("{side} {way}, {special}")));
+    }
+    required
+}
+
+/// Sees the answer, the way to it, and what it came before.
+pub fn see_answer(report: &mut Report, case: &FollowCase, answer: Answer) {
+    report.see(name(answer, "followed"));
+    let number = answer[0].to_string();
+    if case.label.split(':').next() == Some(&number) {
+        report.see(case.label);
+    }
+    if let Some(earlier) = case.earlier {
+        let first = match answer[0] {
+            25..=27 => &number,
+            _ => "the judge's",
+        };
+        report.see(format!("{first} before {}", &earlier[..2]));
+    }
+}
+
+/// Sees whether enough of all inputs were followed.
+pub fn see_share(report: &mut Report, followed: usize, count: usize) {
+    if 3 * followed >= count {
+        report.see(A_THIRD);
+    }
+}
+
+/// Sees what is special about a run that was followed, and each choice.
+pub fn see_matching(report: &mut Report, case: &FollowCase, given: &Given, blocks: &[Block]) {
+    report.see(mix_name("followed", given.left, given.right));
+    let needed = [3 * states_written(blocks), 2 * given.path.len()];
+    let lent = [case.run.states_length, case.run.blocks_length];
+    for (output, (lent, needed)) in OUTPUTS.iter().zip(lent.iter().zip(needed)) {
+        let how = if *lent == needed { "exact" } else { "longer" };
+        report.see(format!("followed, {output} output {how}"));
+    }
+    for (special, is_special) in SPECIAL_RUNS {
+        if is_special(given, blocks) {
+            report.see(format!("followed, {special}"));
+        }
+    }
+    let side = SIDES[given.side as usize];
+    for (way, special) in choices(given, blocks) {
+        report.see(format!("{side} {way}"));
+        for special in special {
+            report.see(format!("{side} {way}, {special}"));
+        }
+    }
+}
+
+/// Each choice by its way, with what is special about it.
+fn choices(given: &Given, blocks: &[Block]) -> Vec<(&'static str, Vec<&'static str>)> {
+    let files = Accepted::of(given.left, given.right, given.certificate);
+    let mut choices = Vec::new();
+    for line in lines(given, blocks) {
+        let clause = CLAUSES[line[4] as usize - 1];
+        choices.push((clause, special(&files, line)));
+    }
+    for pair in last(blocks).written.windows(2) {
+        let mut from_here = steps(given.other()).filter(|step| step.0 == pair[0]);
+        let is_first = from_here.next() == Some((pair[0], pair[1]));
+        let special = if is_first {
+            vec![]
+        } else {
+            vec![NOT_THE_FIRST]
+        };
+        choices.push((GOING_ON, special));
+    }
+    choices
+}
+
+/// How each step of the path was answered, as lines of a listing. States given in one
+/// block are answered by 2b; in a block before the last one each state written but the
+/// first serves 2c, and the first of the next block 2a.
+fn lines(given: &Given, blocks: &[Block]) -> Vec<Line> {
+    let line = |s: usize, u: usize, t: usize, clause: usize, answering: usize| {
+        let (left, right) = [(s, t), (t, s)][given.side as usize];
+        let step = steps(given.own()).position(|step| step == (s, u));
+        let step = step.expect("neighbours are a step");
+        [given.side as usize, left, right, step, clause, answering].map(|number| number as u64)
+    };
+    let mut lines = Vec::new();
+    for (i, block) in blocks.iter().enumerate() {
+        let t = block.written[0];
+        for pair in block.given.windows(2) {
+            lines.push(line(pair[0], pair[1], t, 2, t));
+        }
+        if let Some(next) = blocks.get(i + 1) {
+            let (s, u) = (block.given[block.given.len() - 1], next.given[0]);
+            for pair in block.written.windows(2) {
+                lines.push(line(s, u, pair[0], 3, pair[1]));
+            }
+            let t = block.written[block.written.len() - 1];
+            lines.push(line(s, u, t, 1, next.written[0]));
+        }
+    }
+    lines
+}
+
+/// What is special about the choice of a line.
+fn special(files: &Accepted, line: Line) -> Vec<&'static str> {
+    let [side, left, right, step, clause, answering] = line;
+    let by_2c = [side, left, right, step, 3, 0];
+    let also_2c = || !files.serving(by_2c).is_empty();
+    let mut special = Vec::new();
+    let mut see = |what, seen: bool| special.extend(seen.then_some(what));
+    match clause {
+        1 => {
+            see(NOT_THE_FIRST, files.serving(line)[0] != answering);
+            see(ALSO_2B, files.pauses(line));
+            see(ALSO_2C, also_2c());
+        }
+        2 => see(ALSO_2C, also_2c()),
+        _ => {
+            see(NOT_THE_FIRST, files.serving(line)[0] != answering);
+            let waiting = files.waiting(line);
+            see(RANK_DECIDES, waiting.iter().any(|&v| v < answering));
+        }
+    }
+    special
+}
+
+fn last(blocks: &[Block]) -> &Block {
+    &blocks[blocks.len() - 1]
+}
+
+fn states_written(blocks: &[Block]) -> usize {
+    blocks.iter().map(|block| block.written.len()).sum()
+}
