@@ -1,5 +1,5 @@
-//! The proved judge and the proved maker, for Rust: a safe interface to
-//! `include/stutter.h`.
+//! The proved judge, the proved maker and the proved follower, for Rust: a safe interface
+//! to `include/stutter.h`.
 
 /// "Six numbers: code, file, a, b, c, d."
 pub type Answer = [u64; 6];
@@ -26,6 +26,25 @@ extern "C" {
         relation_length: usize,
         output: *mut u8,
         output_length: usize,
+        answer: *mut u64,
+        answer_length: usize,
+    ) -> bool;
+
+    fn stutter_follow(
+        left: *const u8,
+        left_length: usize,
+        right: *const u8,
+        right_length: usize,
+        certificate: *const u8,
+        certificate_length: usize,
+        side: u64,
+        start: u64,
+        path: *const u8,
+        path_length: usize,
+        states: *mut u8,
+        states_length: usize,
+        blocks: *mut u8,
+        blocks_length: usize,
         answer: *mut u64,
         answer_length: usize,
     ) -> bool;
@@ -88,6 +107,74 @@ pub fn make_into(
             relation.len(),
             output.as_mut_ptr(),
             output.len(),
+            answer.as_mut_ptr(),
+            answer.len(),
+        )
+    }
+}
+
+/// Follows a run of one side on the other: the matching path goes to the front of `states`
+/// and the block numbers of the states given to the front of `blocks`. On a refusal both
+/// stay as they were.
+pub fn follow(
+    left: &[u8],
+    right: &[u8],
+    certificate: &[u8],
+    side: u64,
+    start: u64,
+    path: &[u8],
+    states: &mut [u8],
+    blocks: &mut [u8],
+) -> Answer {
+    let mut answer = [0; 6];
+    let had_room = follow_into(
+        left,
+        right,
+        certificate,
+        side,
+        start,
+        path,
+        states,
+        blocks,
+        &mut answer,
+    );
+    assert!(had_room, "six places are room enough");
+    answer
+}
+
+/// Follows, and puts the six numbers into the first six places of `answer`. Where it has
+/// fewer, nothing is written, `states` and `blocks` stay as they were, and the result is
+/// false.
+pub fn follow_into(
+    left: &[u8],
+    right: &[u8],
+    certificate: &[u8],
+    side: u64,
+    start: u64,
+    path: &[u8],
+    states: &mut [u8],
+    blocks: &mut [u8],
+    answer: &mut [u64],
+) -> bool {
+    // SAFETY: each pointer comes with its slice's length, the slices live through the
+    // call, `states`, `blocks` and `answer` are borrowed for it alone, and nothing is
+    // kept.
+    unsafe {
+        stutter_follow(
+            left.as_ptr(),
+            left.len(),
+            right.as_ptr(),
+            right.len(),
+            certificate.as_ptr(),
+            certificate.len(),
+            side,
+            start,
+            path.as_ptr(),
+            path.len(),
+            states.as_mut_ptr(),
+            states.len(),
+            blocks.as_mut_ptr(),
+            blocks.len(),
             answer.as_mut_ptr(),
             answer.len(),
         )

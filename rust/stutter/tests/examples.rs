@@ -1,6 +1,8 @@
 //! The systems under `examples/systems`: made and judged, or refused, with the
-//! numbers that stand in their files.
+//! numbers that stand in their files; and runs of those accepted, followed on both sides.
 
+use compare::Given;
+use oracle::Table;
 use std::fs;
 use std::path::Path;
 
@@ -18,7 +20,8 @@ fn the_systems_get_the_answers_beside_them() {
     assert_eq!(codes, [0, 0, 0, 22, 23, 23]);
 }
 
-/// Makes and judges one system, and gives the maker's code.
+/// Makes and judges one system, follows a run of each side where it is accepted, and gives
+/// the maker's code.
 fn run(path: &Path) -> u64 {
     let name = path.display();
     let example = text::read(path).unwrap_or_else(|why| panic!("{why}"));
@@ -35,8 +38,53 @@ fn run(path: &Path) -> u64 {
         assert_eq!(judged, oracle::judge(&left, &right, &output), "{name}");
         assert_eq!(Some(judged), example.judge, "{name}: its line 'judge'");
         assert_eq!(judged[0], 0, "{name}");
+        for side in [0, 1] {
+            let system = &example.system;
+            let given = Given {
+                left: &left,
+                right: &right,
+                certificate: &output,
+                side: side as u64,
+                start: system.table(1 - side).start as u64,
+                path: &long_path(system.table(side)),
+            };
+            follow(&format!("{name}, side {side}"), &given);
+        }
     } else {
         assert_eq!(example.judge, None, "{name}: there is nothing to judge");
     }
     made[0]
+}
+
+/// A path of 256 states from the start that takes the steps of each state in turn. No
+/// state of these tables is a dead end.
+fn long_path(table: &Table) -> Vec<u8> {
+    let mut state = table.start;
+    let mut path = vec![state as u8];
+    let mut visits = vec![0; table.states()];
+    while path.len() < 256 {
+        let ends: Vec<usize> = table.ends_from(state).collect();
+        visits[state] += 1;
+        state = ends[visits[state] % ends.len()];
+        path.push(state as u8);
+    }
+    path
+}
+
+/// Follows a run, beside the oracle, and holds it to demand 3.
+fn follow(name: &str, given: &Given) {
+    let (mut expected_states, mut expected_blocks) = ([0; 49_152], [0; 512]);
+    let expected = given.ask(oracle::follow, &mut expected_states, &mut expected_blocks);
+    let (mut states, mut blocks) = ([0; 49_152], [0; 512]);
+    let followed = given.ask(stutter::follow, &mut states, &mut blocks);
+    assert_eq!(followed, expected, "{name}");
+    assert!(
+        states == expected_states && blocks == expected_blocks,
+        "{name}"
+    );
+    assert_eq!(followed[0], 0, "{name}");
+    let matching = given.matching(followed[2], &states, &blocks);
+    let matching = matching.unwrap_or_else(|why| panic!("{name}: {why}"));
+    // The path returns to its start, so it has many blocks.
+    assert!(matching.len() > 20, "{name}: {} blocks", matching.len());
 }
