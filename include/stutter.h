@@ -1,4 +1,5 @@
-/* The judge and the maker of stuttering certificates, for C. Link with libstutter.a, which `rt staticlib stutter` writes to target/staticlib. */
+/* The judge and the maker of stuttering certificates, and the follower of runs, for C. Link with libstutter.a, which `rt staticlib stutter` writes to
+ * target/staticlib. */
 #ifndef STUTTER_H
 #define STUTTER_H
 
@@ -73,6 +74,46 @@ bool stutter_make(const uint8_t *left, size_t left_length,
                   const uint8_t *relation, size_t relation_length,
                   uint8_t *output, size_t output_length,
                   uint64_t *answer, size_t answer_length);
+
+/* The most bytes that are written for a run: 256 states are given, and at most 64 written for each. Outputs of these lengths serve any run. */
+#define STUTTER_STATES_MOST 49152
+#define STUTTER_BLOCKS_MOST 512
+
+/* Follows a run of one table on the other. The path has a byte for each state and is a path of the table that `side` names, 0 left or 1 right, from any
+ * of its states. `start` is a state of the other table, any one that is related to the path's first state. Any bytes are taken, and no file and
+ * no path is too short or too long. No pointer is null, not even that of an empty file or output.
+ *
+ * It finds a path of the other table from `start`, and cuts both into blocks, numbered from 0, each state of a block related to all states of the other
+ * path's block of that number. For each state of the path found, three bytes go to `states`: the state and its block number, high byte first. For
+ * each state of the path given, two bytes go to `blocks`: its block number. Later bytes stay as they are; on a refusal both outputs stay as they
+ * were. Each step is answered by the first of the clauses 2a, 2b, 2c that holds, and by the smallest state that serves; a new block begins at each
+ * 2a. Where the path given ends in a terminal state, the path found goes on by smallest steps to a terminal state.
+ *
+ * The six numbers go to the first six places of `answer`, later places stay as they are, and the function returns true. Where `answer_length`
+ * is below six nothing at all is written, neither to `states` nor to `blocks` nor to `answer`, and it returns false. `states`, `blocks` and `answer`
+ * overlap each other, the files and the path nowhere.
+ *
+ *   answer[0]  code: 0 where the run was followed, else the number of the cause for which it was not
+ *   answer[1]  file: 0 left table, 1 right table, 2 certificate, 3 output, 4 path
+ *   answer[2]  a ..
+ *   answer[5]  .. d: as the code says; a value that it does not name is 0
+ *
+ *   code     a, b, c, d
+ *   0        a the states of the path found
+ *   1 to 19  as of stutter_judge, and so 24: the certificate is judged first
+ *   25       none: the side is not 0 or 1, or the path is empty, has over 256 states, a state that its table does not have, or two neighbours that are
+ *            no step
+ *   26       none: the start is no state of the other table, or is not related to the path's first state
+ *   27       none: `states` has fewer than three bytes for each state of the path found, or `blocks` fewer than two for each state of the path given
+ */
+bool stutter_follow(const uint8_t *left, size_t left_length,
+                    const uint8_t *right, size_t right_length,
+                    const uint8_t *certificate, size_t certificate_length,
+                    uint64_t side, uint64_t start,
+                    const uint8_t *path, size_t path_length,
+                    uint8_t *states, size_t states_length,
+                    uint8_t *blocks, size_t blocks_length,
+                    uint64_t *answer, size_t answer_length);
 
 #ifdef __cplusplus
 }
