@@ -1,8 +1,8 @@
-//! Times the proved judge, the proved maker and the listing program beside Rust
-//! versions, on the same inputs in one run. The versions take turns in every round and
-//! the medians are compared, so that other load on the machine does not decide.
+//! Times the proved judge, the proved maker, the proved follower and the listing program
+//! beside Rust versions, on the same inputs in one run. The versions take turns in every
+//! round and the medians are compared, so that other load on the machine does not decide.
 
-use inputs::{all_related, long_chains, long_distances, Random, System};
+use inputs::{all_related, long_chains, long_distances, long_waits, Random, System};
 use oracle::{Answer, Step, Table};
 use std::cell::RefCell;
 use std::env;
@@ -15,6 +15,7 @@ use std::time::{Duration, Instant};
 
 type Judge = fn(&[u8], &[u8], &[u8]) -> Answer;
 type Make = fn(&[u8], &[u8], &[u8], &mut [u8]) -> Answer;
+type Follow = fn(&[u8], &[u8], &[u8], u64, u64, &[u8], &mut [u8], &mut [u8]) -> Answer;
 
 /// The judges, the proved one first.
 const JUDGES: [(&str, Judge); 3] = [
@@ -30,6 +31,13 @@ const MAKERS: [(&str, Make); 3] = [
     ("tuned maker of the same method", oracle::tuned_maker::make),
 ];
 
+/// The followers, the proved one first.
+const FOLLOWERS: [(&str, Follow); 3] = [
+    ("proved", stutter::follow),
+    ("plain follower", oracle::follow),
+    ("tuned follower", oracle::tuned_follow::follow),
+];
+
 /// With this word this program is the oracle's lister.
 const ORACLE_LISTER: &str = "oracle-lister";
 
@@ -41,8 +49,8 @@ const TURN: Duration = Duration::from_micros(500);
 /// One call of each version with the same input, the proved version first.
 struct Contest<'a> {
     name: &'static str,
-    /// What a call works through, for a time of each.
-    obligations: usize,
+    /// How much a call works through, and of what, for a time of each.
+    work: (usize, &'static str),
     calls: Vec<(&'static str, Call<'a>)>,
 }
 
@@ -52,7 +60,7 @@ fn main() {
     if env::args().nth(1).is_some_and(|word| word == ORACLE_LISTER) {
         return list();
     }
-    println!("64 states and 256 steps a side, medians of {ROUNDS} rounds");
+    println!("64 states and 256 steps a side where no size is given, medians of {ROUNDS} rounds");
     println!("the judge");
     judge("accepted", &all_related(), [0, 0, 4096, 32_768, 0, 0]);
     judge("first check fails", &first_fails(), [17, 2, 0, 0, 0, 0]);
@@ -61,6 +69,13 @@ fn main() {
     make("all pairs related", &all_related());
     make("chains of 63 steps", &long_chains());
     make("distances of 63 steps", &long_distances());
+    println!("the follower");
+    let (ring, path) = (long_waits(), [0, 1].repeat(128));
+    let name = "256 states of a table of 2 on a ring of 64";
+    follow(name, &ring, &path, (8_192, "states written"));
+    let (largest, path) = (all_related(), [0, 1]);
+    let name = "2 states, all pairs related";
+    follow(name, &largest, &path, obligations(&largest));
     println!("the listing");
     listing("all pairs related", &all_related());
     listing("distances of 63 steps", &long_distances());
@@ -80,8 +95,8 @@ fn judge(name: &'static str, system: &System, answer: Answer) {
     let timed = |(version, judge)| (version, boxed(move || call(judge)));
     report(&Contest {
         name,
-        obligations: if answer[0] == 17 {
-            0
+        work: if answer[0] == 17 {
+            (0, "obligations")
         } else {
             obligations(system)
         },
@@ -108,8 +123,39 @@ fn make(name: &'static str, system: &System) {
     let timed = |(version, make)| (version, boxed(move || call(make)));
     report(&Contest {
         name,
-        obligations: obligations(system),
+        work: obligations(system),
         calls: MAKERS.map(timed).into(),
+    });
+}
+
+/// The followers on this run of the left table, which is followed from the right state 0.
+fn follow(name: &'static str, system: &System, path: &[u8], work: (usize, &'static str)) {
+    let (left, right) = (&system.left_bytes(), &system.right_bytes());
+    let certificate = &system.certificate();
+    let lent = [vec![0xa5; 49_152], vec![0xa5; 512]];
+    let outputs = &RefCell::new(lent.clone());
+    let call = |follow: Follow| {
+        let (left, right) = (black_box(left), black_box(right));
+        let (certificate, path) = (black_box(certificate), black_box(path));
+        let [states, blocks] = &mut *outputs.borrow_mut();
+        let (states, blocks) = (black_box(states), black_box(blocks));
+        black_box(follow(left, right, certificate, 0, 0, path, states, blocks))
+    };
+    let answer = call(oracle::follow);
+    let expected = outputs.replace(lent.clone());
+    assert_eq!(answer[0], 0, "{name}");
+    for (version, follow) in FOLLOWERS {
+        assert_eq!(call(follow), answer, "{name}, {version}");
+        assert!(
+            outputs.replace(lent.clone()) == expected,
+            "{name}, {version}"
+        );
+    }
+    let timed = |(version, follow)| (version, boxed(move || call(follow)));
+    report(&Contest {
+        name,
+        work,
+        calls: FOLLOWERS.map(timed).into(),
     });
 }
 
@@ -140,7 +186,7 @@ fn listing(name: &'static str, system: &System) {
     assert!(proved() == plain(), "{name}, the listings differ");
     report(&Contest {
         name,
-        obligations: obligations(system),
+        work: obligations(system),
         calls: vec![("proved", boxed(proved)), ("oracle's lister", boxed(plain))],
     });
     fs::remove_file(&input).expect("the input is removed");
@@ -163,12 +209,13 @@ fn boxed<'a, T>(call: impl Fn() -> T + 'a) -> Call<'a> {
 }
 
 /// The obligations of all related pairs.
-fn obligations(system: &System) -> usize {
+fn obligations(system: &System) -> (usize, &'static str) {
     let steps = |table: &Table, state| table.steps_from(state).len();
     let pairs = system.pairs().into_iter();
-    pairs
+    let count = pairs
         .map(|(s, t)| steps(&system.left, s) + steps(&system.right, t))
-        .sum()
+        .sum();
+    (count, "obligations")
 }
 
 /// The labels of the first pair differ.
@@ -200,9 +247,9 @@ fn report(contest: &Contest) {
     let rounds = rounds(contest);
     let time = |version: usize| median(rounds.iter().map(|times| times[version]));
     print!("  {}: {:.1} us", contest.name, time(0) / 1e3);
-    match contest.obligations {
-        0 => println!(", before any obligation"),
-        n => println!(", {:.2} ns for each of {n} obligations", time(0) / n as f64),
+    match contest.work {
+        (0, what) => println!(", before any of the {what}"),
+        (n, what) => println!(", {:.2} ns for each of {n} {what}", time(0) / n as f64),
     }
     for (i, (version, _)) in contest.calls.iter().enumerate().skip(1) {
         // Of each round, so that a slow round is slow for both.
