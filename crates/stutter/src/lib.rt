@@ -3,6 +3,7 @@ use answers::Answer;
 ghost use mathlib.Core.Path.{_≡_};
 ghost use Rattle.checker.specs.Judge.{judgeAnswer};
 ghost use Rattle.ranking.specs.Make.{makeAnswer, makeOutput};
+ghost use Rattle.path_matcher.specs.Following.{followAnswer, followStates, followBlocks};
 ghost use Rattle.stutter.specs.Interface.{hasRoom, answered, whereRoom};
 
 // The places that an answer takes.
@@ -62,5 +63,49 @@ pub extern "C" fn stutter_make(
         return false;
     }
     let numbers = ranking::make(left, right, relation, output);
+    put_numbers(numbers, answer)
+}
+
+// Follows a path of the table that `side` names, 0 left and 1 right, on the other one from its state `start` on. The states that match it go to the front of
+// `states`, the block numbers of the given states to the front of `blocks`, and the six numbers to the first six places of `answer`; where it has fewer,
+// nothing is written, neither to it nor to the outputs, and false is returned.
+#[no_mangle]
+pub extern "C" fn stutter_follow(
+    left: &[u8],
+    right: &[u8],
+    certificate: &[u8],
+    side: u64,
+    start: u64,
+    path: &[u8],
+    states: &mut [u8],
+    blocks: &mut [u8],
+    answer: &mut [u64],
+) -> bool
+    ensures room { λ r. ⌜ r ≡ hasRoom (now (answer .entry)) ⌝ }
+    ensures put { λ r. ⌜ now (answer .exit)
+        ≡ answered (followAnswer (now (left .entry)) (now (right .entry)) (now (certificate .entry)) side start (now (path .entry)) (now (states .entry))
+        (now (blocks .entry))) (now (answer .entry)) ⌝ }
+    ensures states { λ r. ⌜ now (states .exit)
+        ≡ whereRoom (now (answer .entry))
+        (followStates (now (left .entry)) (now (right .entry)) (now (certificate .entry)) side start (now (path .entry)) (now (states .entry))
+        (now (blocks .entry))) (now (states .entry)) ⌝ }
+    ensures blocks { λ r. ⌜ now (blocks .exit)
+        ≡ whereRoom (now (answer .entry))
+        (followBlocks (now (left .entry)) (now (right .entry)) (now (certificate .entry)) side start (now (path .entry)) (now (states .entry))
+        (now (blocks .entry))) (now (blocks .entry)) ⌝ }
+{
+    if answer.len() < PLACES {
+        return false;
+    }
+    let numbers = path_matcher::follow(
+        left,
+        right,
+        certificate,
+        side as usize,
+        start as usize,
+        path,
+        states,
+        blocks,
+    );
     put_numbers(numbers, answer)
 }
