@@ -148,10 +148,10 @@ module _ (left right c : List ℕ) (bytes : AreBytes c) (side start : ℕ) (path
   r = followedRanks left right c side
 
   abbrev given : List Entry
-  given = givenStates left right c side start path states blocks
+  given = givenStates left right c side start path
 
   abbrev matched : List Entry
-  matched = matchedStates left right c side start path states blocks
+  matched = matchedStates left right c side start path
 
   abbrev verdict : Verdict ℕ
   verdict = followVerdict left right c side start path states blocks

@@ -80,7 +80,7 @@ match-decided v r side start path states blocks =
     (room-decides (length (matchedAlong v r path start)) (length path) states blocks)) λ z k o. decided-none refl
 
 module _ (left right c : List ℕ) (side start : ℕ) (path states blocks : List ℕ) where
-  pub follow-decided : Decided (λ n. n ≡ length (matchedStates left right c side start path states blocks))
+  pub follow-decided : Decided (λ n. n ≡ length (matchedStates left right c side start path))
       (followCauses left right c side start path states blocks) (followVerdict left right c side start path states blocks)
   unfolding followVerdict
   follow-decided =

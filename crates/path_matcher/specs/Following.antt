@@ -80,6 +80,13 @@ followedView left right c side = viewFrom side (certifiedView left right c)
 abbrev pub followedRanks : (left right c : List ℕ) → (side : ℕ) → Ranks
 followedRanks left right c side = ranksFrom side (certifiedRanks left right c)
 
+-- The states of both paths.
+abbrev pub givenStates : (left right c : List ℕ) → (side start : ℕ) → (path : List ℕ) → List Entry
+givenStates left right c side start path = givenAlong (followedView left right c side) (followedRanks left right c side) path start
+
+abbrev pub matchedStates : (left right c : List ℕ) → (side start : ℕ) → (path : List ℕ) → List Entry
+matchedStates left right c side start path = matchedAlong (followedView left right c side) (followedRanks left right c side) path start
+
 module _ (left right c : List ℕ) (side start : ℕ) (path states blocks : List ℕ) where
   -- The verdict on whatever is given.
   unfoldable pub followVerdict : Verdict ℕ
@@ -87,20 +94,13 @@ module _ (left right c : List ℕ) (side start : ℕ) (path states blocks : List
       judgeVerdict left right c andThen λ x.
       matchVerdict (followedView left right c side) (followedRanks left right c side) side start path states blocks
 
-  -- The states of both paths.
-  abbrev pub givenStates : List Entry
-  givenStates = givenAlong (followedView left right c side) (followedRanks left right c side) path start
-
-  abbrev pub matchedStates : List Entry
-  matchedStates = matchedAlong (followedView left right c side) (followedRanks left right c side) path start
-
   -- Success is 0, 0 and the states written.
   unfoldable pub followAnswer : Answer
   followAnswer = answerOf (sixNumbers 0 0) followVerdict
 
   -- The outputs afterwards.
   unfoldable pub followStates : List ℕ
-  followStates = outputAfter followVerdict (flatMap entryBytes matchedStates) states
+  followStates = outputAfter followVerdict (flatMap entryBytes (matchedStates left right c side start path)) states
 
   unfoldable pub followBlocks : List ℕ
-  followBlocks = outputAfter followVerdict (flatMap blockBytes givenStates) blocks
+  followBlocks = outputAfter followVerdict (flatMap blockBytes (givenStates left right c side start path)) blocks
