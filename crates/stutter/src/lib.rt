@@ -94,7 +94,8 @@ pub extern "C" fn stutter_follow(
         (followBlocks (now (left .entry)) (now (right .entry)) (now (certificate .entry)) side start (now (path .entry)) (now (states .entry))
         (now (blocks .entry))) (now (blocks .entry)) ⌝ }
 {
-    if answer.len() < PLACES {
+    let places = answer.len();
+    if places < PLACES {
         return false;
     }
     let numbers = path_matcher::follow(
