@@ -110,7 +110,8 @@ module _ (v : View) (r : Ranks) (w : WellFormed v) (l : List ℕ) (a : IsPath (v
   needed-few r′ s [] t h = omega (arith, lower-bound (other .states) (λ y. r′ .stutter y s) t (w .there .related< t s h))
   needed-few r′ s (j ∷ J) t h = omega (arith, lower-bound (other .states) (r .match j) t (w .there .related< t s h))
 
-  standing-i : (r′ : Ranks) → EveryObligation Meets (flip v) r′ → (N : ℕ) {J : List ℕ} {i n t m : ℕ} → i < length l → T (related (getD l i 0) t) → n ≤ i → m ≤ length W → i + 1 ≤ length G
+  standing-i : (r′ : Ranks) → EveryObligation Meets (flip v) r′ → (N : ℕ) {J : List ℕ} {i n t m : ℕ}
+      → i < length l → T (related (getD l i 0) t) → n ≤ i → m ≤ length W → i + 1 ≤ length G
       → stepsAt own l i ≡ J → needed v r r′ (getD l i 0) J t < N
       → drop (i + 1) G ≡ givenAfter v n (matchSteps v r N (getD l i 0) J t)
       → drop m W ≡ matchingAfter v n (matchSteps v r N (getD l i 0) J t)
@@ -143,7 +144,8 @@ module _ (v : View) (r : Ranks) (w : WellFormed v) (l : List ℕ) (a : IsPath (v
   )
 
   -- the whole path is matched
-  pub path-matched : (r′ : Ranks) → EveryObligation Meets v r → EveryObligation Meets (flip v) r′ → T (related (getD l 0 0) t₀) → Matched v r (getD l 0 0) (drop 1 l) t₀
+  pub path-matched : (r′ : Ranks) → EveryObligation Meets v r → EveryObligation Meets (flip v) r′
+      → T (related (getD l 0 0) t₀) → Matched v r (getD l 0 0) (drop 1 l) t₀
   path-matched r′ D D′ h = followed-matches v r r′ w D D′ (getD l 0 0) (drop 1 l) t₀ h (whole l a)
     where
       whole : (l : List ℕ) → IsPath own l → IsPath own (getD l 0 0 ∷ drop 1 l)
@@ -223,7 +225,8 @@ module _ (v : View) (r : Ranks) (w : WellFormed v) (l : List ℕ) (a : IsPath (v
             let e = moved next-step (cond-false (is2a v j t) _ _ na ∙ cond-false (is2b v r j t) _ _ nb ∙ cond-true (is2c v r j t) _ _ c
             ∙ ap (λ y. push k (matchSteps v r (g .left) (getD l i 0) (j ∷ stepsAt own l (i + 1)) y)) x) in
             let z = next-at W m _ _ (e .1) in (
-              standing-i (g .ranks′) (g .met′) (g .left) (g .inside) h (g .low) (omega (arith, z .0 .below)) (g .given-room) next-step (omega (arith, d, enough-next)) (e .0) (z .1),
+              standing-i (g .ranks′) (g .met′) (g .left) (g .inside) h (g .low) (omega (arith, z .0 .below)) (g .given-room) next-step
+                  (omega (arith, d, enough-next)) (e .0) (z .1),
               rw x at (z .0),
             )
 
@@ -243,7 +246,8 @@ module _ (v : View) (r : Ranks) (w : WellFormed v) (l : List ℕ) (a : IsPath (v
           let k = smallestStep other (λ k. eqb (other .from k) t) in
           let p = terminal-2b v (g .ranks′) (g .met′) s t (g .related) (still-terminal own s f) k (q .0) (eqb→eq _ _ (q .1)) in
           let h = subst (λ y. T (related s y)) (q .2) (p .1) in
-          let d = rw (q .2) at (lower-falls (other .states) (λ y. g .ranks′ .stutter y s) (g .ranks′ .stutter t s) (other .to k) (w .there .to< k (q .0)) (p .2)) in
+          let A : ℕ → ℕ = λ y. g .ranks′ .stutter y s in
+          let d = rw (q .2) at (lower-falls (other .states) A (A t) (other .to k) (w .there .to< k (q .0)) (p .2)) in
           let e = moved ended (cond-true (not (moves own s) && moves other t) _ _ (and-i (not (moves own s)) (moves other t) (not-T (moves own s) f) c)
           ∙ ap (λ y. push k (matchSteps v r (g .left) s [] y)) (q .2)) in
           let z = next-at W m _ _ (e .1) in (

@@ -115,7 +115,9 @@ module _ (left right c : List ℕ) (zero : judgeAnswer left right c .code ≡ 0)
       → followVerdict left right c side start path states blocks
       ≡ matchVerdict (followedView left right c side) (followedRanks left right c side) side start path states blocks
   unfolding followVerdict
-  after-judge side start path states blocks = let x = none-on (judgeVerdict left right c) (judge-decided left right c) (zero-none left right c zero) in rw (x .1)
+  after-judge side start path states blocks =
+      let x = none-on (judgeVerdict left right c) (judge-decided left right c) (zero-none left right c zero) in
+      rw (x .1)
 
   followed-as : (side start : ℕ) (path states blocks : List ℕ) {answer : Answer} {states′ blocks′ : List ℕ}
       → Answered (matchVerdict (followedView left right c side) (followedRanks left right c side) side start path states blocks)

@@ -121,11 +121,12 @@ module _ {ours theirs certificate : List ℕ} {run : Run} {path : List ℕ} {pla
 
   module _ (last : length path ≤ place + 1) where
     -- past the last state
-    pub move-on : {x : ℕ} → ¬ T (moves (v .own) (byteAt path place)) → T (moves (v .other) state) → x ≡ smallestEntered (v .other) (λ k. eqb (v .other .from k) state)
-        → Push x ≡ nextMove v r path place state
+    pub move-on : {x : ℕ} → ¬ T (moves (v .own) (byteAt path place)) → T (moves (v .other) state)
+        → x ≡ smallestEntered (v .other) (λ k. eqb (v .other .from k) state) → Push x ≡ nextMove v r path place state
     unfolding nextMove
     move-on n m e =
-        sym (rw (le-ltb (place + 1) (length path) last, not-T-false (moves (v .own) (byteAt path place)) n, T-true (moves (v .other) state) m) (ap Push (sym e)))
+        let own = not-T-false (moves (v .own) (byteAt path place)) n in
+        sym (rw (le-ltb (place + 1) (length path) last, own, T-true (moves (v .other) state) m) (ap Push (sym e)))
 
     pub move-none : T (moves (v .own) (byteAt path place)) ⊎ (¬ T (moves (v .other) state)) → End ≡ nextMove v r path place state
     unfolding nextMove

@@ -164,7 +164,8 @@ fn next_move(
 ) -> Move
     requires { ⌜ AllMet (now ours) (now theirs) (now certificate) run ⌝ }
     requires { ⌜ StandsAt (now ours) (now theirs) (now path) place state j ⌝ }
-    ensures { λ r. ⌜ r ≡ nextMove (viewIn (now (ours .entry)) (now (theirs .entry))) (ranksIn (now (certificate .entry)) run) (now (path .entry)) place state ⌝ }
+    ensures { λ r. ⌜ r ≡ nextMove (viewIn (now (ours .entry)) (now (theirs .entry))) (ranksIn (now (certificate .entry)) run) (now (path .entry))
+        place state ⌝ }
 {
     if place < path.len() - 1 {
         let outcome = obligation_at(ours, theirs, certificate, run, j, state);

@@ -85,7 +85,10 @@ side-of-requires-2 c κs = search needs
 
 returns : tie.Need-returns
 returns c =
-    record { words = words-at c .row-words .result; made = rw (← (sizes-at c .before .before .head-of .ensures), ← (sizes-at c .before .head-of2 .ensures)) (made c) }
+    record {
+      words = words-at c .row-words .result;
+      made = rw (← (sizes-at c .before .before .head-of .ensures), ← (sizes-at c .before .head-of2 .ensures)) (made c);
+    }
 
 pub sides-of-spec : {M : Type 1} → statement M
 sides-of-spec =

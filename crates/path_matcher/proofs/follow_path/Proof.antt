@@ -9,7 +9,8 @@ use Rattle.lists.specs.Numbers.{byteAt}
 use Rattle.path_matcher.specs.OnSides.{stepBetween, matchedIn}
 use Rattle.path_matcher.specs.declared.Move.{Move}
 use Rattle.path_matcher.specs.declared.Move.the-variants.{Enter, Stay, Push, End}
-use Rattle.path_matcher.proofs.FollowLaws.{Going, Entering, Staying, Pushing, Ending, After, path-some, start-small, going-start, going-stands, going-after}
+use Rattle.path_matcher.proofs.FollowLaws.{Going, Entering, Staying, Pushing, Ending, After, path-some, start-small}
+use Rattle.path_matcher.proofs.FollowLaws.{going-start, going-stands, going-after}
 use Rattle.path_matcher.proofs.follow_path.Statement.{statement}
 use Rattle.path_matcher.proofs.follow_path.Tie as tie
 
@@ -55,6 +56,22 @@ abbrev ended : (c : tie.After-enum-told2 Inv-loop μ-loop) → let m = c .before
     (m .before .loop .inv .0)
 ended c = after (c .before .before) End (c .enum-told2 .given .1)
 
+-- where each arm was entered
+
+abbrev enter-at : tie.After-slice-known4 Inv-loop μ-loop → tie.After-next Inv-loop μ-loop
+enter-at c = c .before .before .before .before .before .before .before .before .before
+
+abbrev stay-at : tie.After-slice-known5 Inv-loop μ-loop → tie.After-enum-told Inv-loop μ-loop
+stay-at c = c .before .before .before .before
+
+abbrev push-at : tie.After-slice-known6 Inv-loop μ-loop → tie.After-next2 Inv-loop μ-loop
+push-at c = c .before .before .before .before .before
+
+-- and where the loop is reached for the first time
+
+abbrev begin-at : tie.After-slice-known2 Inv-loop μ-loop → tie.Start Inv-loop μ-loop
+begin-at c = c .before .before .before .before .before .before .before .before .before .before .before .before
+
 -- ---- the needs
 
 put-entry-requires : tie.Need-put-entry-requires Inv-loop μ-loop
@@ -64,12 +81,14 @@ put-number-requires : tie.Need-put-number-requires Inv-loop μ-loop
 put-number-requires c κs = omega arith
 
 step-after-requires : tie.Need-step-after-requires Inv-loop μ-loop
-step-after-requires c κs = let s = c .before .before .before .before .before .before .before .before .before .before .before .before in path-some _ _ _ _ _ _ (s .pre .0) (s .pre .1)
+step-after-requires c κs = let s = begin-at c in path-some _ _ _ _ _ _ (s .pre .0) (s .pre .1)
 
 loop-holds : tie.Need-loop-holds Inv-loop μ-loop
 loop-holds c =
-    let s = c .before .before .before .before .before .before .before .before .before .before .before .before .before in (
-      going-start _ _ _ _ _ _ (s .pre .0) (s .pre .1) (now (s .args .found)) (now (s .args .numbers)) (omega arith) (omega arith) (c .before .before .before .before .before .before .before .put-entry .ensures) (c .before .before .before .put-number .ensures),
+    let s = begin-at (c .before) in
+    let found = c .before .before .before .before .before .before .before .put-entry .ensures in
+    let numbers = c .before .before .before .put-number .ensures in (
+      going-start _ _ _ _ _ _ (s .pre .0) (s .pre .1) (now (s .args .found)) (now (s .args .numbers)) (omega arith) (omega arith) found numbers,
       c .step-after .ensures,
     )
 
@@ -94,16 +113,18 @@ put-entry-requires-2 : tie.Need-put-entry-requires-2 Inv-loop μ-loop
 put-entry-requires-2 c κs = let x = entered (c .before .before .before .before .before .before) in (x .small, x .entry-room)
 
 add-count : tie.Need-add-count Inv-loop μ-loop
-add-count c = let x = entered (c .before .before .before .before .before .before .before .before .before) .entry-room in omega arith
+add-count c = let x = entered (enter-at c) .entry-room in omega arith
 
 step-after-requires-2 : tie.Need-step-after-requires-2 Inv-loop μ-loop
-step-after-requires-2 c κs = entered (c .before .before .before .before .before .before .before .before .before) .more
+step-after-requires-2 c κs = entered (enter-at c) .more
 
 loop-less : tie.Need-loop-less Inv-loop μ-loop
-loop-less c = let x = entered (c .before .before .before .before .before .before .before .before .before .before) in let y = x .more in let z = x .fewer in omega arith
+loop-less c = let x = entered (enter-at (c .before)) in let y = x .more in let z = x .fewer in omega arith
 
 loop-again : tie.Need-loop-again Inv-loop μ-loop
-loop-again c = (entered (c .before .before .before .before .before .before .before .before .before .before) .next (c .before .before .before .before .before .before .before .put-number2 .ensures) (c .before .before .before .put-entry2 .ensures), c .step-after2 .ensures)
+loop-again c =
+    let numbers = c .before .before .before .before .before .before .before .put-number2 .ensures in
+    (entered (enter-at (c .before)) .next numbers (c .before .before .before .put-entry2 .ensures), c .step-after2 .ensures)
 
 enum-told : tie.Need-enum-told Inv-loop μ-loop
 enum-told c = search needs
@@ -115,13 +136,17 @@ put-number-requires-3 : tie.Need-put-number-requires-3 Inv-loop μ-loop
 put-number-requires-3 c κs = stayed (c .before) .number-room
 
 step-after-requires-3 : tie.Need-step-after-requires-3 Inv-loop μ-loop
-step-after-requires-3 c κs = stayed (c .before .before .before .before) .more
+step-after-requires-3 c κs = stayed (stay-at c) .more
 
 loop-less-2 : tie.Need-loop-less-2 Inv-loop μ-loop
-loop-less-2 c = let x = stayed (c .before .before .before .before .before) .more in let y = c .before .before .before .before .before .before .before .before .loop .inv .0 .standing .room in omega arith
+loop-less-2 c =
+    let e = stay-at (c .before) in
+    let x = stayed e .more in
+    let y = e .before .before .before .loop .inv .0 .standing .room in
+    omega arith
 
 loop-again-2 : tie.Need-loop-again-2 Inv-loop μ-loop
-loop-again-2 c = (stayed (c .before .before .before .before .before) .next (c .before .before .before .put-number3 .ensures), c .step-after3 .ensures)
+loop-again-2 c = (stayed (stay-at (c .before)) .next (c .before .before .before .put-number3 .ensures), c .step-after3 .ensures)
 
 enum-known-next-2 : tie.Need-enum-known-next-2 Inv-loop μ-loop
 enum-known-next-2 c = search needs
@@ -130,13 +155,17 @@ put-entry-requires-3 : tie.Need-put-entry-requires-3 Inv-loop μ-loop
 put-entry-requires-3 c κs = let x = pushed (c .before .before) in (x .small, x .entry-room)
 
 add-count-2 : tie.Need-add-count-2 Inv-loop μ-loop
-add-count-2 c = let x = pushed (c .before .before .before .before .before) .entry-room in omega arith
+add-count-2 c = let x = pushed (push-at c) .entry-room in omega arith
 
 loop-less-3 : tie.Need-loop-less-3 Inv-loop μ-loop
-loop-less-3 c = let x = pushed (c .before .before .before .before .before) .fewer in let y = c .before .before .before .before .before .before .before .before .loop .inv .0 .standing .inside in omega arith
+loop-less-3 c =
+    let e = push-at c in
+    let x = pushed e .fewer in
+    let y = e .before .before .before .loop .inv .0 .standing .inside in
+    omega arith
 
 loop-again-3 : tie.Need-loop-again-3 Inv-loop μ-loop
-loop-again-3 c = (pushed (c .before .before .before .before .before) .next (c .before .before .put-entry3 .ensures), c .before .before .before .before .before .before .before .before .loop .inv .1)
+loop-again-3 c = (pushed (push-at c) .next (c .before .before .put-entry3 .ensures), push-at c .before .before .before .loop .inv .1)
 
 enum-told-2 : tie.Need-enum-told-2 Inv-loop μ-loop
 enum-told-2 c = search needs

@@ -1,8 +1,8 @@
 -- `path_matcher::follow_sides` meets its contract: test after test, and only then both outputs are written. Assumes nothing.
 use Prim.Native.Nat.{ℕ, _*_, _≤_}
-use mathlib.Core.Path.{_≡_, sym, ap, _∙_}
+use mathlib.Core.Path.{_≡_, sym, ap, _∙_, subst}
 use mathlib.Core.Bool.{false}
-use mathlib.Core.List.{List}
+use mathlib.Core.List.{List, flatMap}
 use native.Mathlib.Omega.{arith}
 use denote.Ref.{now}
 use lib.ListN.{length}
@@ -10,11 +10,12 @@ use borrow.Author.Needs.{needs}
 use borrow.Author.Tests.{not-true, not-false}
 use Rattle.lists.specs.Lists.{putFront}
 use Rattle.lists.proofs.FillLaws.{part-front}
+use Rattle.bisimulation.specs.PathMatching.{Entry}
 use Rattle.answers.specs.Numbers.{sixNumbers}
 use Rattle.sides.specs.Side.{systemIn}
 use Rattle.sides.specs.Views.{viewIn}
-use Rattle.path_matcher.specs.Following.{wrongPath, wrongStart}
-use Rattle.path_matcher.specs.OnSides.{matchedIn}
+use Rattle.path_matcher.specs.Following.{entryBytes, blockBytes, wrongPath, wrongStart}
+use Rattle.path_matcher.specs.OnSides.{givenIn, matchedIn}
 use Rattle.path_matcher.proofs.FollowSidesLaws.{
   answered-refusal,
   answered-success,
@@ -48,13 +49,28 @@ right-start : (c : tie.After-follow-path) → let a = start-at (found-at c) .arg
     wrongStart (viewIn (now (a .ours)) (now (a .theirs))) (now (a .path)) (a .start) ≡ false
 right-start c =
     let h = found-at c in
-    start-right (start-at h .pre) (now (start-at h .args .path)) (start-at h .args .start) (h .before .before .byte .ensures .0) (h .before .related .ensures .0)
-    (h .has .ensures) (not-false _ (c .before .before .before .if2 .left))
+    let a = start-at h .args in
+    start-right (start-at h .pre) (now (a .path)) (a .start) (h .before .before .byte .ensures .0) (h .before .related .ensures .0) (h .has .ensures)
+    (not-false _ (c .before .before .before .if2 .left))
 
 -- how many states match
 counted : (c : tie.After-follow-path) → let a = start-at (found-at c) .args in
     c .follow-path .result ≡ length (matchedIn (now (a .ours)) (now (a .theirs)) (now (a .certificate)) (a .run) (now (a .path)) (a .start))
 counted c = c .follow-path .ensures .0
+
+-- where the outputs are written
+abbrev put-at : tie.After-slice-known4 → tie.After-put-front
+put-at c = c .before .before .before .before .before .before .before .before
+
+abbrev matched : tie.After-follow-path → List Entry
+matched f =
+    let a = start-at (found-at f) .args in
+    matchedIn (now (a .ours)) (now (a .theirs)) (now (a .certificate)) (a .run) (now (a .path)) (a .start)
+
+abbrev given : tie.After-follow-path → List Entry
+given f =
+    let a = start-at (found-at f) .args in
+    givenIn (now (a .ours)) (now (a .theirs)) (now (a .certificate)) (a .run) (now (a .path)) (a .start)
 
 -- ---- the needs
 
@@ -150,15 +166,23 @@ same-length-2 c = search needs
 
 returns-5 : tie.Need-returns-5
 returns-5 c =
-    let f = c .before .before .before .before .before .before .before .before .before .before .before .before .before .before in
+    let p = put-at c in
+    let f = p .before .before .before .before .before .before in
     let a = start-at (found-at f) .args in
     let e = f .follow-path .ensures in
-    let few : 3 * length (matchedIn (now (a .ours)) (now (a .theirs)) (now (a .certificate)) (a .run) (now (a .path)) (a .start)) ≤ length (now (a .states)) =
-    rw (counted f) at (c .before .before .before .before .before .before .before .before .before .before .before .before .before .if3 .left) in
-    answered-success _ _ _ _ (verdict-on _ _ _ _ _ _ (right-path (found-at f)) (right-start f) (room-enough _ _ _ _ few (c .before .before .before .before .before .before .before .before .before .before .before .before .if4 .left)))
-    (ap (sixNumbers 0 0) (counted f))
-    (c .before .before .before .before .before .before .before .before .put-front .ensures ∙ ap (λ (x : List ℕ). putFront x (now (a .states))) (c .before .before .before .before .before .before .before .before .before .before .part-of .ensures ∙ part-front (f .follow-path .last .1 .1 .1 .1 .1 .1 .0) (3 * f .follow-path .result) ∙ e .1 .1 .1 .0))
-    (c .before .before .put-front2 .ensures ∙ ap (λ (x : List ℕ). putFront x (now (a .blocks))) (c .before .before .before .before .part-of2 .ensures ∙ part-front (f .follow-path .last .1 .1 .1 .1 .1 .1 .1 .0) (2 * length (now (a .path))) ∙ e .1 .1 .1 .1))
+    let l = f .follow-path .last in
+    let few : 3 * length (matched f) ≤ length (now (a .states)) =
+    subst (λ (x : ℕ). 3 * x ≤ length (now (a .states))) (counted f) (p .before .before .before .before .before .if3 .left) in
+    let room = room-enough _ _ _ _ few (p .before .before .before .before .if4 .left) in
+    let states : p .put-front .last .1 .0 ≡ putFront (flatMap entryBytes (matched f)) (now (a .states)) =
+    p .put-front .ensures
+    ∙ ap (λ (x : List ℕ). putFront x (now (a .states)))
+    (p .before .before .part-of .ensures ∙ part-front (l .1 .1 .1 .1 .1 .1 .0) (3 * f .follow-path .result) ∙ e .1 .1 .1 .0) in
+    let blocks : c .before .before .put-front2 .last .1 .0 ≡ putFront (flatMap blockBytes (given f)) (now (a .blocks)) =
+    c .before .before .put-front2 .ensures
+    ∙ ap (λ (x : List ℕ). putFront x (now (a .blocks)))
+    (c .before .before .before .before .part-of2 .ensures ∙ part-front (l .1 .1 .1 .1 .1 .1 .1 .0) (2 * length (now (a .path))) ∙ e .1 .1 .1 .1) in
+    answered-success _ _ _ _ (verdict-on _ _ _ _ _ _ (right-path (found-at f)) (right-start f) room) (ap (sixNumbers 0 0) (counted f)) states blocks
 
 pub follow-sides-spec : {M : Type 1} → statement M
 follow-sides-spec =

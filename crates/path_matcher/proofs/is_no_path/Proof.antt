@@ -51,8 +51,11 @@ returns-4 : tie.Need-returns-4 Inv-loop μ-loop
 returns-4 c =
     let a = c .before .before .before .before .before .before .before .before .before .before .before .before in
     let l = c .before .before .before .before .before .loop in
+    let h = c .before in
     no-step _ _ (l .i - 1) (omega arith) (omega arith)
-    (read-step (a .pre) (now (a .args .path)) (l .i - 1) (l .i) (l .inv .2) (c .before .before .byte2 .ensures .0) (c .before .before .before .entered .ensures .0) (c .before .has .ensures) ∙ not-true _ (c .if4 .taken))
+    (read-step (a .pre) (now (a .args .path)) (l .i - 1) (l .i) (l .inv .2) (h .before .byte2 .ensures .0) (h .before .before .entered .ensures .0)
+    (h .has .ensures)
+    ∙ not-true _ (c .if4 .taken))
 
 returns-5 : tie.Need-returns-5 Inv-loop μ-loop
 returns-5 c = no-state _ _ (c .before .before .before .before .before .before .loop .i) (omega arith) (omega arith)
@@ -67,11 +70,13 @@ loop-again : tie.Need-loop-again Inv-loop μ-loop
 loop-again c =
     let a = c .before .before .before .before .before .before .before .before .before .before .before .before .before in
     let l = c .before .before .before .before .before .before .loop in
-    let h = read-step (a .pre) (now (a .args .path)) (l .i - 1) (l .i) (l .inv .2) (c .before .before .before .byte2 .ensures .0) (c .before .before .before .before .entered .ensures .0) (c .before .before .has .ensures) in (
+    let h = c .before .before in
+    let u = h .before .byte2 .ensures .0 in
+    let step = read-step (a .pre) (now (a .args .path)) (l .i - 1) (l .i) (l .inv .2) u (h .before .before .entered .ensures .0) (h .has .ensures) in (
       omega arith,
       omega arith,
-      c .before .before .before .byte2 .ensures .0 ∙ ap (byteAt (now (a .args .path))) (omega arith),
-      read-more _ _ (l .i - 1) (omega arith) (l .inv .3) (true-T _ (h ∙ not-false _ (c .before .if4 .left))) (omega arith),
+      u ∙ ap (byteAt (now (a .args .path))) (omega arith),
+      read-more _ _ (l .i - 1) (omega arith) (l .inv .3) (true-T _ (step ∙ not-false _ (c .before .if4 .left))) (omega arith),
     )
 
 returns-6 : tie.Need-returns-6 Inv-loop μ-loop

@@ -12,6 +12,10 @@ use Rattle.path_matcher.proofs.MoveLaws.{after-some, after-none, move-b
 use Rattle.path_matcher.proofs.next_move.Statement.{statement}
 use Rattle.path_matcher.proofs.next_move.Tie as tie
 
+-- where the obligation was looked at, and where the clause is told
+abbrev outcome-at : tie.After-outcome → tie.After-obligation-at
+outcome-at c = c .before .before
+
 sub-if1 : tie.Need-sub-if1
 sub-if1 c = search needs
 
@@ -25,7 +29,10 @@ enum-told : tie.Need-enum-told
 enum-told c = search needs
 
 returns : tie.Need-returns
-returns c = let a = c .before .before .before .before .before .before .pre in move-by (a .0) (a .1) (omega arith) _ (c .before .before .obligation-at .ensures) (c .enum-told .given .1)
+returns c =
+    let o = c .before .before in
+    let a = o .before .before .before .before .pre in
+    move-by (a .0) (a .1) (omega arith) _ (o .obligation-at .ensures) (c .enum-told .given .1)
 
 enum-told-2 : tie.Need-enum-told-2
 enum-told-2 c = search needs
@@ -38,18 +45,21 @@ enum-told-4 c = search needs
 
 returns-2 : tie.Need-returns-2
 returns-2 c =
-    let a = c .before .before .before .before .before .before .before .before .before .pre in
-    move-met (a .0) (a .1) (omega arith) Step (c .before .before .before .before .before .obligation-at .ensures) (c .before .before .before .outcome .given .1) (c .enum-told2 .given .1)
+    let o = c .before .before .before in
+    let a = outcome-at o .before .before .before .before .pre in
+    move-met (a .0) (a .1) (omega arith) Step (outcome-at o .obligation-at .ensures) (o .outcome .given .1) (c .enum-told2 .given .1)
 
 returns-3 : tie.Need-returns-3
 returns-3 c =
-    let a = c .before .before .before .before .before .before .before .before .before .pre in
-    move-met (a .0) (a .1) (omega arith) Stutter (c .before .before .before .before .before .obligation-at .ensures) (c .before .before .before .outcome .given .1) (c .enum-told3 .given .1)
+    let o = c .before .before .before in
+    let a = outcome-at o .before .before .before .before .pre in
+    move-met (a .0) (a .1) (omega arith) Stutter (outcome-at o .obligation-at .ensures) (o .outcome .given .1) (c .enum-told3 .given .1)
 
 returns-4 : tie.Need-returns-4
 returns-4 c =
-    let a = c .before .before .before .before .before .before .before .before .before .pre in
-    move-met (a .0) (a .1) (omega arith) Match (c .before .before .before .before .before .obligation-at .ensures) (c .before .before .before .outcome .given .1) (c .enum-told4 .given .1)
+    let o = c .before .before .before in
+    let a = outcome-at o .before .before .before .before .pre in
+    move-met (a .0) (a .1) (omega arith) Match (outcome-at o .obligation-at .ensures) (o .outcome .given .1) (c .enum-told4 .given .1)
 
 byte-requires : tie.Need-byte-requires
 byte-requires c κs = search needs
@@ -69,7 +79,8 @@ smallest-after-requires-2 c κs = search needs
 returns-6 : tie.Need-returns-6
 returns-6 c =
     let start = c .before .before .before .before .before .before .before .before in
-    let e = c .before .before .before .smallest-after .ensures ∙ ap (λ (s : ℕ). firstBit (enteredFrom (now (start .args .ours)) s)) (c .before .before .before .before .byte .ensures .0) in
+    let own = c .before .before .before in
+    let e = own .smallest-after .ensures ∙ ap (λ (s : ℕ). firstBit (enteredFrom (now (start .args .ours)) s)) (own .before .byte .ensures .0) in
     let x = after-some (start .pre .0 .linked′) _ (c .before .smallest-after2 .ensures) (c .if3 .taken) in
     move-on (start .pre .0) (start .pre .1) (omega arith) (after-none (start .pre .0 .linked) _ e (c .before .before .if2 .left)) (x .0) (x .1)
 

@@ -42,7 +42,9 @@ same-length c = search needs
 
 returns : tie.Need-returns
 unfolding bigBytes
-returns c = let a = c .args in rw (add-one, add-two) (sets-eq (entryBytes (record { state = a .state; block = a .block })) (a .output .now) (3 * a .i) (omega arith))
+returns c =
+    let a = c .args in
+    rw (add-one, add-two) (sets-eq (entryBytes (record { state = a .state; block = a .block })) (a .output .now) (3 * a .i) (omega arith))
 
 pub put-entry-spec : {M : Type 1} → statement M
 put-entry-spec =

@@ -18,6 +18,10 @@ Inv-loop side path i s u j₀ j = stepBetween side (byteAt path i) (byteAt path 
 abbrev μ-loop : tie.MeasureT-loop
 μ-loop side path i s u j₀ j = 256 - j
 
+-- where the next state was read
+abbrev next-at : tie.After-next Inv-loop μ-loop → tie.After-byte2 Inv-loop μ-loop
+next-at c = c .before .before .before .before .before .before
+
 byte-requires : tie.Need-byte-requires Inv-loop μ-loop
 byte-requires c κs = search needs
 
@@ -52,7 +56,8 @@ returns-2 : tie.Need-returns-2 Inv-loop μ-loop
 returns-2 c =
     let side = now (c .before .before .before .before .before .before .before .before .before .before .args .side) in
     let l = c .before .before .before .before .before .loop in
-    let n : ¬ (systemIn side .to (l .j) ≡ c .before .before .before .before .before .before .before .byte2 .result) = λ e. c .before .before .if1 .left (c .before .before .before .to .ensures ∙ e) in
+    let other = c .before .before in
+    let n : ¬ (systemIn side .to (l .j) ≡ next-at (c .before) .byte2 .result) = λ e. other .if1 .left (other .before .to .ensures ∙ e) in
     sym (l .inv ∙ between-next side _ (l .j) (omega arith) n (next-none side (l .j) (c .before .next .ensures) (c .if2 .taken))
     ∙ between-end side _ 256 (omega arith))
 
@@ -63,7 +68,8 @@ loop-again : tie.Need-loop-again Inv-loop μ-loop
 loop-again c =
     let side = now (c .before .before .before .before .before .before .before .before .before .before .args .side) in
     let l = c .before .before .before .before .before .loop in
-    let n : ¬ (systemIn side .to (l .j) ≡ c .before .before .before .before .before .before .before .byte2 .result) = λ e. c .before .before .if1 .left (c .before .before .before .to .ensures ∙ e) in
+    let other = c .before .before in
+    let n : ¬ (systemIn side .to (l .j) ≡ next-at (c .before) .byte2 .result) = λ e. other .if1 .left (other .before .to .ensures ∙ e) in
     l .inv ∙ between-next side _ (l .j) (omega arith) n (next-later side (l .j) (c .before .next .ensures) (c .if2 .left))
 
 returns-3 : tie.Need-returns-3 Inv-loop μ-loop
