@@ -49,11 +49,11 @@ use Rattle.path_matcher.specs.Following.{
 }
 use Rattle.path_matcher.specs.FollowCauses.{WrongPath, WrongStart, NoRoom, matchCauses, followCauses, followNumber}
 use Rattle.path_matcher.proofs.FollowCauseLaws.{has-step-decides, follow-decided, follow-numbers}
-use Rattle.demands.specs.Ask3.{entriesIn, givenIn, statesNumbered, FollowedBy, Followable, FollowExact}
+use Rattle.demands.specs.Ask3.{entriesIn, givenIn, blocksOf, FollowedBy, Followable, FollowExact}
 use Rattle.demands.proofs.JudgeAnswers.{accepted-zero}
 use Rattle.demands.proofs.JudgeExact.{formed-view, judge-exact}
 use Rattle.demands.proofs.NextLaws.{path-next}
-use Rattle.demands.proofs.OutputLaws.{Fits, entry-length, block-length, entries-back, given-back, numbered-block}
+use Rattle.demands.proofs.OutputLaws.{Fits, entry-length, block-length, entries-back, given-back, blocks-back}
 
 -- ---- what an acceptance says, from either side
 
@@ -125,8 +125,8 @@ module _ (v : View) (r : Ranks) (a : Accepted v r) (side start : ℕ) (path : Li
         followed = record {
           matching = m .matching;
           states-are = sym (matching-states m);
-          block-is = λ i. sym (ap (statesNumbered i) e ∙ numbered-block i 0 i (m .matching .blocks) (omega arith));
-          block-is′ = λ i. sym (ap (statesNumbered i) f ∙ numbered-block i 0 i (m .matching .blocks′) (omega arith));
+          blocks-are = sym (ap blocksOf e ∙ blocks-back (m .matching .blocks) (m .matching .cut) (m .matching .same .none-empty));
+          blocks-are′ = sym (ap blocksOf f ∙ blocks-back (m .matching .blocks′) (m .matching .cut′) (m .matching .same .none-empty′));
           numbers = e;
           numbers′ = f;
           next = path-next v r (a .formed) (a .met) path is-path start (swap r) (a .met′) are-related;

@@ -1,9 +1,10 @@
--- What is written in the follower's outputs is read back: states and block numbers in parts of three bytes, block numbers in parts of two; and the states
--- with the number of a block are the block's. Assumes nothing.
+-- What is written in the follower's outputs is read back: states and block numbers in parts of three bytes, block numbers in parts of two; and the blocks
+-- are those that their numbers tell. Assumes nothing.
 use Prim.Native.Nat.{ℕ, zero, suc, _+_, _*_, _<_}
 use mathlib.Core.Path.{_≡_, refl, ap, ap₂, _∙_, subst}
+use mathlib.Core.Logic.{_≢_}
 use mathlib.Core.Bool.{Bool, true, false, cond}
-use mathlib.Core.List.{List, [], _∷_, _++_, map, flatMap, append-nil}
+use mathlib.Core.List.{List, [], _∷_, _++_, map, flatten, flatMap, append-nil, nil≢cons}
 use native.Mathlib.Omega.{arith}
 use borrow.Author.Tests.{eq-eqb, ne-eqb}
 use lib.Dec.{eqb}
@@ -15,7 +16,7 @@ use Rattle.lists.proofs.FlatLaws.{flat-at}
 use Rattle.lists.proofs.NumberLaws.{flat-number, length-bytes, bytes-back}
 use Rattle.bisimulation.specs.PathMatching.{Entry, inBlock, numberedFrom}
 use Rattle.path_matcher.specs.Following.{entryBytes, blockBytes}
-use Rattle.demands.specs.Ask3.{entriesIn, givenIn, statesNumbered}
+use Rattle.demands.specs.Ask3.{entriesIn, givenIn, statesNumbered, lastNumber, blocksOf, numbered}
 
 -- ---- reading back
 
@@ -94,7 +95,7 @@ numbered-before n m [] h = refl
 numbered-before n m (b ∷ bs) h =
     numbered-append n (inBlock m b) (numberedFrom (suc m) bs) ∙ ap₂ _++_ (numbered-other n m b (λ e. omega arith)) (numbered-before n (suc m) bs (omega arith))
 
-pub numbered-block : (n m i : ℕ) (bs : List (List ℕ)) → n ≡ m + i → statesNumbered n (numberedFrom m bs) ≡ getD bs i []
+numbered-block : (n m i : ℕ) (bs : List (List ℕ)) → n ≡ m + i → statesNumbered n (numberedFrom m bs) ≡ getD bs i []
 unfolding numberedFrom statesNumbered
 numbered-block n m i [] e = refl
 numbered-block n m zero (b ∷ bs) e =
@@ -103,3 +104,28 @@ numbered-block n m zero (b ∷ bs) e =
 numbered-block n m (suc i) (b ∷ bs) e =
     numbered-append n (inBlock m b) (numberedFrom (suc m) bs)
     ∙ ap₂ _++_ (numbered-other n m b (λ x. omega arith)) (numbered-block n (suc m) i bs (omega arith))
+
+-- ---- the blocks that the numbers tell
+
+-- before anything else, a block tells as much as any one of its states
+last-block : (n k : ℕ) (l : List Entry) → ((x : ℕ) → lastNumber (numbered x n ∷ l) ≡ k) → (x : ℕ) (b : List ℕ) → lastNumber (inBlock n (x ∷ b) ++ l) ≡ k
+unfolding lastNumber
+last-block n k l h x [] = h x
+last-block n k l h x (y ∷ b) = last-block n k l h y b
+
+-- each block counts one on
+last-number : (n x : ℕ) (b : List ℕ) (bs : List (List ℕ)) → All (λ b. b ≢ []) bs → lastNumber (numberedFrom n ((x ∷ b) ∷ bs)) ≡ n + length bs
+unfolding numberedFrom lastNumber
+last-number n x b [] a = last-block n (n + 0) [] (λ x. omega arith) x b
+last-number n x b ([] ∷ bs) a = absurd (a .0 refl)
+last-number n x b ((y ∷ c) ∷ bs) a = last-block n (n + suc (length bs)) _ (λ x. last-number (suc n) y c bs (a .1) ∙ omega arith) x b
+
+-- there is a state, and no block is empty, so the last state is one of the last block
+pub blocks-back : {s : ℕ} {p : List ℕ} (bs : List (List ℕ)) → flatten bs ≡ s ∷ p → All (λ b. b ≢ []) bs → blocksOf (numberedFrom 0 bs) ≡ bs
+unfolding flatten blocksOf
+blocks-back [] e a = absurd (nil≢cons e)
+blocks-back ([] ∷ bs) e a = absurd (a .0 refl)
+blocks-back ((x ∷ b) ∷ bs) e a =
+    let l : List (List ℕ) = (x ∷ b) ∷ bs in
+    let n : suc (lastNumber (numberedFrom 0 l)) ≡ length l = omega (arith, last-number 0 x b bs (a .1)) in
+    rw n (join-cong (length l) _ _ (λ i h. ap (λ (b : List ℕ). b ∷ []) (numbered-block i 0 i l (omega arith))) ∙ join-of [] l)

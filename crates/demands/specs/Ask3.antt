@@ -1,5 +1,5 @@
 -- Ask 3 of document 02 on bytes, for any three files, any side, start and path, and any two outputs: a run is followed on the other model.
-use Prim.Native.Nat.{ℕ, _+_, _*_, _≤_, _<_}
+use Prim.Native.Nat.{ℕ, suc, _+_, _*_, _≤_, _<_}
 use mathlib.Core.Path.{_≡_}
 use mathlib.Core.Bool.{cond}
 use mathlib.Core.List.{List, [], _∷_, map}
@@ -9,7 +9,7 @@ use Rattle.lists.specs.Below.{Smallest}
 use Rattle.lists.specs.Lists.{joinBelow}
 use Rattle.lists.specs.Numbers.{byteAt, bigEndian}
 use Rattle.bisimulation.specs.Systems.{System, View, Ranks, Terminal, Step as IsStep}
-use Rattle.bisimulation.specs.PathProperty.{MatchingPath, block}
+use Rattle.bisimulation.specs.PathProperty.{MatchingPath}
 use Rattle.bisimulation.specs.PathMatching.{Entry, numberedFrom}
 use Rattle.answers.specs.Numbers.{sixNumbers}
 use Rattle.answers.specs.Causes.{NoCause, Answers}
@@ -35,6 +35,16 @@ givenIn path blocks = joinBelow (length path) (λ i. record { state = byteAt pat
 unfoldable pub statesNumbered : ℕ → List Entry → List ℕ
 statesNumbered n [] = []
 statesNumbered n (e ∷ es) = cond (eqb (e .block) n) (e .state ∷ statesNumbered n es) (statesNumbered n es)
+
+-- The number of the last state.
+unfoldable pub lastNumber : List Entry → ℕ
+lastNumber [] = 0
+lastNumber (e ∷ []) = e .block
+lastNumber (e ∷ f ∷ es) = lastNumber (f ∷ es)
+
+-- The blocks that the numbers tell: the states numbered 0, those numbered 1, and so on, up to the number of the last state.
+unfoldable pub blocksOf : List Entry → List (List ℕ)
+blocksOf l = joinBelow (suc (lastNumber l)) (λ i. statesNumbered i l ∷ [])
 
 -- ---- how a run is followed
 
@@ -73,9 +83,9 @@ pub record FollowedBy (v : View) (r : Ranks) (path : List ℕ) (start : ℕ) (gi
   pub matching : MatchingPath v (byteAt path 0) (drop 1 path) start
   -- The states written are the matching path's.
   pub states-are : start ∷ matching .q ≡ map (λ e. e .state) matched
-  -- Demand 3's block i, of either path, has the states with the number i, in their order.
-  pub block-is : (i : ℕ) → block (matching .blocks) i ≡ statesNumbered i given
-  pub block-is′ : (i : ℕ) → block (matching .blocks′) i ≡ statesNumbered i matched
+  -- Demand 3's blocks, of either path, are those that the numbers tell: block i has the states with the number i, in their order.
+  pub blocks-are : matching .blocks ≡ blocksOf given
+  pub blocks-are′ : matching .blocks′ ≡ blocksOf matched
   -- The numbers count the blocks along the path from 0: first the states of block 0, then those of block 1, and so on.
   pub numbers : given ≡ numberedFrom 0 (matching .blocks)
   pub numbers′ : matched ≡ numberedFrom 0 (matching .blocks′)
