@@ -16,7 +16,7 @@ impl Room {
     fn new(example: &str) -> Room {
         static NEXT: AtomicUsize = AtomicUsize::new(0);
         let number = NEXT.fetch_add(1, Ordering::Relaxed);
-        let repository = Path::new(env!("CARGO_MANIFEST_DIR")).join("../..");
+        let repository = repository();
         let name = format!("stutter-header-{}-{number}", std::process::id());
         let room = Room(std::env::temp_dir().join(name));
         fs::create_dir_all(&room.0).expect("the folder is made");
@@ -142,24 +142,53 @@ fn the_follower_in_c_equals_the_oracle() {
     }
 }
 
-/// The run in the README of `examples` is printed as it stands there.
+/// The folder of the repository.
+fn repository() -> PathBuf {
+    Path::new(env!("CARGO_MANIFEST_DIR")).join("../..")
+}
+
+/// The example prints this run as it stands in the document.
+fn stands_in(document: &str, given: &Given) {
+    let document = fs::read_to_string(repository().join(document)).expect("the document is there");
+    let found = run_beside_its_match(&Room::new("follow"), given);
+    let indented: String = found.lines().map(|line| format!("    {line}\n")).collect();
+    assert!(document.contains(&indented), "{indented}");
+}
+
+/// The bytes of a file in hexadecimal, with comments.
+fn from_hex(name: &str) -> Vec<u8> {
+    let file = repository().join("examples").join(name);
+    let text = fs::read_to_string(file).expect("the file is there");
+    let codes = text.lines().filter_map(|line| line.split('#').next());
+    let byte = |code| u8::from_str_radix(code, 16).expect("two digits");
+    codes.flat_map(str::split_whitespace).map(byte).collect()
+}
+
 #[test]
 fn the_run_of_the_readme() {
-    let examples = Path::new(env!("CARGO_MANIFEST_DIR")).join("../../examples");
-    let readme = fs::read_to_string(examples.join("README.md")).expect("the README is there");
-    let system = text::read(&examples.join("systems/ring.relation"))
+    let given = Given {
+        left: &from_hex("P.hex"),
+        right: &from_hex("Q.hex"),
+        certificate: &from_hex("K.hex"),
+        side: 0,
+        start: 0,
+        path: &[0, 1, 0],
+    };
+    stands_in("README.md", &given);
+}
+
+#[test]
+fn the_run_of_the_examples_readme() {
+    let system = text::read(&repository().join("examples/systems/ring.relation"))
         .expect("the files can be read")
         .system;
-    let path = [0, 1, 2, 4, 5, 6, 7, 1];
     let given = Given {
         left: &system.left_bytes(),
         right: &system.right_bytes(),
         certificate: &system.certificate(),
         side: 0,
         start: 0,
-        path: &path,
+        path: &[0, 1, 2, 4, 5, 6, 7, 1],
     };
-    let found = run_beside_its_match(&Room::new("follow"), &given);
-    let indented: String = found.lines().map(|line| format!("    {line}\n")).collect();
-    assert!(readme.contains(&indented), "{indented}");
+    stands_in("examples/README.md", &given);
 }
