@@ -3,12 +3,12 @@
 use Prim.Native.Nat.{ℕ}
 use mathlib.Core.Path.{_≡_, refl, sym, ap, _∙_, subst}
 use mathlib.Core.Logic.{inl}
-use mathlib.Core.Bool.{Bool, true, false}
+use mathlib.Core.Bool.{true}
 use mathlib.Core.List.{List, flatMap}
-use lib.ListN.{length, drop}
+use lib.ListN.{drop}
 use Rattle.lists.specs.Numbers.{byteAt}
 use Rattle.bisimulation.specs.Clauses.{Meets, EveryObligation}
-use Rattle.bisimulation.specs.PathMatching.{Entry, numberedFrom, givenEntries, matchingEntries}
+use Rattle.bisimulation.specs.PathMatching.{numberedFrom, givenEntries, matchingEntries}
 use Rattle.bisimulation.specs.StepPaths.{Cut, stateBlocks}
 use Rattle.bisimulation.specs.Systems.{View, Ranks, flip, swap}
 use Rattle.bisimulation.proofs.ClauseLaws.{flip-formed}
@@ -43,7 +43,7 @@ use Rattle.path_matcher.specs.Following.{
   followStates,
   followBlocks,
 }
-use Rattle.path_matcher.specs.OnSides.{ranksIn, AllMet, givenIn, matchedIn, verdictIn}
+use Rattle.path_matcher.specs.OnSides.{AllMet, givenIn, matchedIn, verdictIn}
 use Rattle.path_matcher.proofs.FollowCauseLaws.{path-decides}
 use Rattle.path_matcher.proofs.FollowSidesLaws.{Answered, answered-refusal}
 

@@ -112,8 +112,11 @@ module _ (ours theirs certificate : List ℕ) (run : Run) (path : List ℕ) (sta
         let k : suc (length (drop 1 path)) * v .other .states ≤ 256 * 64 = mul-le-mul h (states-few theirs) in
         omega (arith, matching-most whole)
 
+    state-small : (s x : ℕ) → T (v .related s x) → x < 256
+    state-small s x h = omega (arith, all .formed .there .related< x s h, states-few theirs)
+
     pub start-small : start < 256
-    start-small = omega (arith, all .formed .there .related< start (byteAt path 0) (from .related), states-few theirs)
+    start-small = state-small (byteAt path 0) start (from .related)
 
     -- ---- at the start one state of each is written
 
@@ -131,13 +134,11 @@ module _ (ours theirs certificate : List ℕ) (run : Run) (path : List ℕ) (sta
     -- ---- after each move
 
     module _ {found numbers : List ℕ} {place state block count : ℕ} (g : Going found numbers place state block count) where
-      -- it stands there
+      -- what the next move asks
       pub going-stands : {j : ℕ} → j ≡ stepBetween ours (byteAt path place) (byteAt path (place + 1)) → StandsAt ours theirs path place state j
       going-stands e = record { path-is = from .path-is; inside = g .standing .inside; related = g .standing .related; step-is = e }
 
-      -- where it goes on
-
-      -- Into a new block at x.
+      -- It goes on into a new block, at x.
       pub record Entering (x : ℕ) : Type 0 where
         pub more : place + 1 < length path
         pub low : block < 256
@@ -150,14 +151,14 @@ module _ (ours theirs certificate : List ℕ) (run : Run) (path : List ℕ) (sta
             → found′ ≡ take (3 * count) found ++ entryBytes (record { state = x; block = block + 1 }) ++ drop (3 * count + 3) found
             → Going found′ numbers′ (place + 1) x (block + 1) (count + 1)
 
-      -- Inside the block, with the given path.
+      -- The given path goes on inside the block.
       pub record Staying : Type 0 where
         pub more : place + 1 < length path
         pub number-room : 2 * (place + 1) + 2 ≤ length numbers
         pub next : {numbers′ : List ℕ} → numbers′ ≡ take (2 * (place + 1)) numbers ++ bigBytes 2 block ++ drop (2 * (place + 1) + 2) numbers
             → Going found numbers′ (place + 1) state block count
 
-      -- Inside the block to x, without it.
+      -- It goes on inside the block, to x, and the given path does not.
       pub record Pushing (x : ℕ) : Type 0 where
         pub small : x < 256
         pub fewer : count < length matched
@@ -166,7 +167,7 @@ module _ (ours theirs certificate : List ℕ) (run : Run) (path : List ℕ) (sta
             → found′ ≡ take (3 * count) found ++ entryBytes (record { state = x; block = block }) ++ drop (3 * count + 3) found
             → Going found′ numbers place x block (count + 1)
 
-      -- No more: all is written.
+      -- It has ended, and all is written.
       pub record Ending : Type 0 where
         pub count-is : count ≡ length matched
         pub few : count ≤ 16384
@@ -178,9 +179,6 @@ module _ (ours theirs certificate : List ℕ) (run : Run) (path : List ℕ) (sta
 
       number-has : {e : Entry} → At given (place + 1) e → 2 * (place + 1) + 2 ≤ length numbers
       number-has at = omega (arith, at .below, given-count, from .few, g .numbers-long)
-
-      state-small : (s x : ℕ) → T (v .related s x) → x < 256
-      state-small s x h = omega (arith, all .formed .there .related< x s h, states-few theirs)
 
       numbered : (n : ℕ) {numbers′ : List ℕ} (at : At given (place + 1) (record { state = byteAt path (place + 1); block = n }))
           → numbers′ ≡ take (2 * (place + 1)) numbers ++ bigBytes 2 n ++ drop (2 * (place + 1) + 2) numbers
@@ -263,11 +261,8 @@ module _ (ours theirs certificate : List ℕ) (run : Run) (path : List ℕ) (sta
             numbers-all = ap (λ (x : ℕ). take x numbers) e ∙ g .numbers-are ∙ ap (flatMap blockBytes) (take-all (place + 1) given (omega (arith, q .1)));
           }
 
-      abbrev step-met : place + 1 < length path → Type 0
-      step-met more = Meets v r (stepOf (v .own) (byteAt path place) (byteAt path (place + 1))) state
-
-      -- an obligation is met
-      met-here : (more : place + 1 < length path) → step-met more
+      -- the step to the next state is answered
+      met-here : place + 1 < length path → Meets v r (stepOf (v .own) (byteAt path place) (byteAt path (place + 1))) state
       met-here more =
           let q = standing-step v r (all .formed) path (from .path-is) start (g .standing) more in
           all .met _ state (q .0) (rw (q .1) (g .standing .related))
@@ -283,6 +278,6 @@ module _ (ours theirs certificate : List ℕ) (run : Run) (path : List ℕ) (sta
           absurd (⊎-elim (λ a. h .1 (is2a-i v _ state a)) (⊎-elim (λ b. h .2 (is2b-i v r _ state b)) (λ c. h .3 (is2c-i v r _ state c))) (met-here (h .0)))
       after-told End (inr h) = ending (standing-stop v r (all .formed) path (from .path-is) start (g .standing) (h .0) (h .1))
 
-      -- the move that was read
+      -- the move that was read leads there
       pub going-after : {m : Move} (m′ : Move) → m ≡ nextMove v r path place state → m ≡ m′ → After m′
       going-after m′ e q = after-told m′ (subst (Told v r path place state) (sym e ∙ q) (told v r path place state))

@@ -9,7 +9,6 @@ use native.Mathlib.Decide.{decLt}
 use lib.Dec.{T, ltb, eqb, eqb→eq, ltb→lt, lt→ltb}
 use lib.ListN.{length}
 use borrow.Author.Tests.{lt-ltb, le-ltb}
-use Rattle.lists.specs.Below.{Smallest}
 use Rattle.lists.specs.Numbers.{byteAt}
 use Rattle.lists.proofs.BelowLaws.{any-e, any-i, smallest-one}
 use Rattle.lists.proofs.BoolLaws.{and-l, and-r, and-i, eq→eqb, T-true, not-T-false}
@@ -35,7 +34,6 @@ use Rattle.obligations.specs.OnSides.{obligationIn}
 use Rattle.obligations.proofs.OnSidesLaws.{obligation-in}
 use Rattle.path_matcher.specs.declared.Move.{Move}
 use Rattle.path_matcher.specs.declared.Move.the-variants.{Enter, Stay, Push, End}
-use Rattle.path_matcher.specs.Following.{hasStep}
 use Rattle.path_matcher.specs.OnSides.{ranksIn, AllMet, StandsAt, moveAfter, nextMove}
 use Rattle.path_matcher.proofs.FollowCauseLaws.{has-step-decides}
 use Rattle.path_matcher.proofs.PathLaws.{between-is}

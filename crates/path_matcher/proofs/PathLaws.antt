@@ -114,15 +114,15 @@ module _ (S : System) (path : List ℕ) where
   no-state i l h = no-path (inr (inr (inr (inl (i, l, h)))))
 
   -- where all bytes are read, it is one
-  pub right-path : 0 < length path → length path ≤ 256 → ReadTo (length path) → WrongPath 0 S path → ⊥
-  right-path some few r (inl p) = p .0 refl
-  right-path some few r (inr (inl p)) = omega arith
-  right-path some few r (inr (inr (inl p))) = omega arith
-  right-path some few r (inr (inr (inr (inl p)))) = omega (arith, r .states (p .0) (p .1), p .2)
-  right-path some few r (inr (inr (inr (inr p)))) = p .2 (has-step-decides S _ _ .sound (r .steps (p .0) (p .1)))
+  no-fault : 0 < length path → length path ≤ 256 → ReadTo (length path) → WrongPath 0 S path → ⊥
+  no-fault some few r (inl p) = p .0 refl
+  no-fault some few r (inr (inl p)) = omega arith
+  no-fault some few r (inr (inr (inl p))) = omega arith
+  no-fault some few r (inr (inr (inr (inl p)))) = omega (arith, r .states (p .0) (p .1), p .2)
+  no-fault some few r (inr (inr (inr (inr p)))) = p .2 (has-step-decides S _ _ .sound (r .steps (p .0) (p .1)))
 
   pub a-path : 0 < length path → length path ≤ 256 → ReadTo (length path) → false ≡ wrongPath 0 S path
-  a-path some few r = sym (decides-false (path-decides 0 S path) (right-path some few r))
+  a-path some few r = sym (decides-false (path-decides 0 S path) (no-fault some few r))
 
 -- the word of the states that steps from s enter tells whether one enters u
 pub read-step : {side : List ℕ} → Linked side → (path : List ℕ) (k i : ℕ) {s u word : ℕ} {has : Bool} → s ≡ byteAt path k → u ≡ byteAt path i

@@ -1,6 +1,5 @@
 -- `path_matcher::follow` meets its contract: it judges first, so on a refusal nothing is followed. Assumes nothing.
 use mathlib.Core.Path.{sym, ap, _∙_}
-use denote.Ref.{now}
 use borrow.Author.Needs.{needs}
 use Rattle.answers.specs.declared.Answer.{Answer}
 use Rattle.path_matcher.proofs.AcceptedLaws.{judge-refused}

@@ -1,5 +1,5 @@
 -- `path_matcher::follow_path` meets its contract: each move writes what it leads to, and what is left to write grows less. Assumes nothing.
-use Prim.Native.Nat.{ℕ, _+_, _-_}
+use Prim.Native.Nat.{_+_, _-_}
 use mathlib.Core.Path.{_≡_}
 use native.Mathlib.Omega.{arith}
 use denote.Ref.{now}

@@ -1,5 +1,5 @@
 -- `path_matcher::is_no_path` meets its contract: the states are read one after the other. Assumes nothing.
-use Prim.Native.Nat.{ℕ, _-_, _≤_, _<_}
+use Prim.Native.Nat.{_-_, _≤_, _<_}
 use mathlib.Core.Path.{_≡_, ap, _∙_, subst}
 use mathlib.Core.Logic.{inl, inr}
 use Rattle.lists.proofs.BoolLaws.{true-T}

@@ -1,5 +1,4 @@
 -- `path_matcher::smallest_after` meets its contract: the first of the states that steps enter. Assumes nothing.
-use Prim.Native.Nat.{ℕ}
 use mathlib.Core.Path.{ap, _∙_}
 use Rattle.words.specs.Bits.{firstBit}
 use borrow.Author.Needs.{needs}

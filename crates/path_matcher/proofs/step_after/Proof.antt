@@ -1,5 +1,5 @@
 -- `path_matcher::step_after` meets its contract: the walk along the links stops at the first step that enters the next state. Assumes nothing.
-use Prim.Native.Nat.{ℕ, _+_, _-_}
+use Prim.Native.Nat.{_+_, _-_}
 use mathlib.Core.Path.{_≡_, sym, ap₂, _∙_}
 use native.Mathlib.Omega.{arith}
 use denote.Ref.{now}
