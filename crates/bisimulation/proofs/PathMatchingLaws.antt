@@ -132,7 +132,8 @@ module _ (S : System) where
   )
 
   pub path-e : (l : List ℕ) → IsPath S l
-      → (0 < length l) × ((i : ℕ) → i < length l → getD l i 0 < S .states) × ((i : ℕ) → i + 1 < length l → Step S (getD l i 0) (getD l (i + 1) 0))
+      → (0 < length l) × ((i : ℕ) → i < length l → getD l i 0 < S .states)
+      × ((i : ℕ) → i + 1 < length l → Step S (getD l i 0) (getD l (i + 1) 0))
   path-e l a = (some l a, state l a, step l a)
     where
       some : (l : List ℕ) → IsPath S l → 0 < length l
@@ -170,7 +171,8 @@ module _ (v : View) (A C A′ C′ A″ C″ : ℕ → ℕ → ℕ) where
       let k = smallestStep (v .other) (meets2a v j t) in
       let e = smallestStep (v .other) (meets2c v q j t) in
       let pick : Cut → Cut → Cut → Cut = λ x y z. choose (is2a v j t) (is2b v q j t) (is2c v q j t) (enter j k x) (grow j y) (push e z) in
-      ap₂ (λ x y. pick x y (matchSteps v q N s (j ∷ J) (v .other .to e))) (same-steps N (v .own .to j) J (v .other .to k)) (same-steps N (v .own .to j) J t)
+      ap₂ (λ x y. pick x y (matchSteps v q N s (j ∷ J) (v .other .to e)))
+      (same-steps N (v .own .to j) J (v .other .to k)) (same-steps N (v .own .to j) J t)
       ∙ ap (pick _ _) (same-steps N s (j ∷ J) (v .other .to e))
 
   -- the path that is followed depends on the own side's ranks alone

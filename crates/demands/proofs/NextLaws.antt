@@ -64,7 +64,8 @@ module _ (v : View) (r : Ranks) (j t : ℕ) where
 smallest-step : (S : System) (t : ℕ) → T (moves S t) → Smallest (Step S t) (smallestEntered S (λ k. eqb (S .from k) t))
 unfolding moves
 smallest-step S t h =
-    smallest-as (Enters S (λ k. eqb (S .from k) t)) (Step S t) (λ x q. (q .0, q .1, eqb→eq _ _ (q .2), q .3)) (λ x q. (q .0, q .1, eq→eqb _ _ (q .2), q .3))
+    smallest-as (Enters S (λ k. eqb (S .from k) t)) (Step S t)
+    (λ x q. (q .0, q .1, eqb→eq _ _ (q .2), q .3)) (λ x q. (q .0, q .1, eq→eqb _ _ (q .2), q .3))
     (smallest-entered S (λ k. eqb (S .from k) t) h)
 
 -- ---- one move after the other

@@ -54,10 +54,12 @@ entries-back es l a =
     (flat-number 3 entryBytes entry-length none es l i 1 2 h (omega arith) ∙ entry-back (getD es i none) (each es a i)))
     ∙ join-of none es
 
-pub given-back : (path : List ℕ) (es : List Entry) (l : List ℕ) → map (λ e. e .state) es ≡ path → All Fits es → givenIn path (flatMap blockBytes es ++ l) ≡ es
+pub given-back : (path : List ℕ) (es : List Entry) (l : List ℕ) → map (λ e. e .state) es ≡ path → All Fits es
+    → givenIn path (flatMap blockBytes es ++ l) ≡ es
 unfolding givenIn
 given-back path es l e a =
-    subst (λ (p : List ℕ). joinBelow (length p) (λ i. record { state = byteAt p i; block = bigEndian (flatMap blockBytes es ++ l) (2 * i) 2 } ∷ []) ≡ es) e
+    subst
+    (λ (p : List ℕ). joinBelow (length p) (λ i. record { state = byteAt p i; block = bigEndian (flatMap blockBytes es ++ l) (2 * i) 2 } ∷ []) ≡ es) e
     (rw (length-map es (λ (e : Entry). e .state))
     (join-cong (length es) _ (λ i. getD es i none ∷ []) (λ i h. ap₂ (λ (x y : ℕ). record { state = x; block = y } ∷ [])
     (List·getD-map (λ (e : Entry). e .state) es i none)
@@ -93,7 +95,8 @@ numbered-before : (n m : ℕ) (bs : List (List ℕ)) → n < m → statesNumbere
 unfolding numberedFrom statesNumbered
 numbered-before n m [] h = refl
 numbered-before n m (b ∷ bs) h =
-    numbered-append n (inBlock m b) (numberedFrom (suc m) bs) ∙ ap₂ _++_ (numbered-other n m b (λ e. omega arith)) (numbered-before n (suc m) bs (omega arith))
+    numbered-append n (inBlock m b) (numberedFrom (suc m) bs)
+    ∙ ap₂ _++_ (numbered-other n m b (λ e. omega arith)) (numbered-before n (suc m) bs (omega arith))
 
 numbered-block : (n m i : ℕ) (bs : List (List ℕ)) → n ≡ m + i → statesNumbered n (numberedFrom m bs) ≡ getD bs i []
 unfolding numberedFrom statesNumbered
@@ -108,7 +111,8 @@ numbered-block n m (suc i) (b ∷ bs) e =
 -- ---- the blocks that the numbers tell
 
 -- before anything else, a block tells as much as any one of its states
-last-block : (n k : ℕ) (l : List Entry) → ((x : ℕ) → lastNumber (numbered x n ∷ l) ≡ k) → (x : ℕ) (b : List ℕ) → lastNumber (inBlock n (x ∷ b) ++ l) ≡ k
+last-block : (n k : ℕ) (l : List Entry) → ((x : ℕ) → lastNumber (numbered x n ∷ l) ≡ k)
+    → (x : ℕ) (b : List ℕ) → lastNumber (inBlock n (x ∷ b) ++ l) ≡ k
 unfolding lastNumber
 last-block n k l h x [] = h x
 last-block n k l h x (y ∷ b) = last-block n k l h y b

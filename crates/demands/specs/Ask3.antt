@@ -100,7 +100,8 @@ Followable left right c side start path =
     × (¬ WrongStart (followedView left right c side) path start)
 
 -- What the answer and the outputs afterwards are, for these inputs and outputs.
-pub record FollowExact (left right c : List ℕ) (side start : ℕ) (path states blocks : List ℕ) (answer : Answer) (states′ blocks′ : List ℕ) : Type 0 where
+pub record FollowExact (left right c : List ℕ) (side start : ℕ) (path states blocks : List ℕ) (answer : Answer)
+    (states′ blocks′ : List ℕ) : Type 0 where
   -- The answer is that of the first cause that applies, the judge's own before 25, 26 and 27; where none does, it is 0, 0 and the states written.
   pub answers : Answers (followCauses left right c side start path states blocks) (λ a. a ≡ sixNumbers 0 0 (a .a)) answer
   -- A refusal leaves both outputs untouched.

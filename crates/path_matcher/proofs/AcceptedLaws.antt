@@ -10,7 +10,7 @@ use Rattle.lists.specs.Numbers.{byteAt}
 use Rattle.bisimulation.specs.Clauses.{Meets, EveryObligation}
 use Rattle.bisimulation.specs.PathMatching.{numberedFrom, givenEntries, matchingEntries}
 use Rattle.bisimulation.specs.StepPaths.{Cut, stateBlocks}
-use Rattle.bisimulation.specs.Systems.{View, Ranks, flip, swap}
+use Rattle.bisimulation.specs.Systems.{View, Ranks, WellFormed, flip, swap}
 use Rattle.bisimulation.proofs.ClauseLaws.{flip-formed}
 use Rattle.bisimulation.proofs.PathMatchingLaws.{same-followed}
 use Rattle.answers.specs.Numbers.{sixNumbers}
@@ -22,6 +22,7 @@ use Rattle.certificates.specs.Layout.{sizesOf}
 use Rattle.certificates.specs.CertificateModel.{AreBytes, ranksOf, certifiedView, certifiedRanks}
 use Rattle.certified_sides.specs.declared.Sides.{Sides}
 use Rattle.certified_sides.specs.Made.{CertifiedSides}
+use Rattle.sides.specs.Built.{Linked}
 use Rattle.sides.specs.Views.{viewIn}
 use Rattle.obligations.specs.declared.Run.{Run}
 use Rattle.obligations.specs.OnSides.{leftRun, rightRun}
@@ -43,7 +44,7 @@ use Rattle.path_matcher.specs.Following.{
   followStates,
   followBlocks,
 }
-use Rattle.path_matcher.specs.OnSides.{AllMet, givenIn, matchedIn, verdictIn}
+use Rattle.path_matcher.specs.OnSides.{ranksIn, AllMet, givenIn, matchedIn, verdictIn}
 use Rattle.path_matcher.proofs.FollowCauseLaws.{path-decides}
 use Rattle.path_matcher.proofs.FollowSidesLaws.{Answered, answered-refusal}
 
@@ -109,6 +110,20 @@ module _ (left right c : List ℕ) where
 
 -- ---- on bytes that the judge accepts
 
+-- two sides, from either, where all obligations are met of the view that they hold
+met-on : (c : List ℕ) {ours theirs : List ℕ} {run : Run} (v : View) (r′ : Ranks)
+    → Linked ours → Linked theirs → viewIn ours theirs ≡ v → WellFormed v
+    → EveryObligation Meets v (ranksIn c run) → EveryObligation Meets (flip v) r′ → AllMet ours theirs c run
+met-on c {run = run} v r′ a b e w D D′ =
+    record {
+      linked = a;
+      linked′ = b;
+      formed = subst WellFormed (sym e) w;
+      met = subst (λ (x : View). EveryObligation Meets x (ranksIn c run)) (sym e) D;
+      ranks′ = r′;
+      met′ = subst (λ (x : View). EveryObligation Meets (flip x) r′) (sym e) D′;
+    }
+
 module _ (left right c : List ℕ) (zero : judgeAnswer left right c .code ≡ 0) where
   -- the judge goes on
   after-judge : (side start : ℕ) (path states blocks : List ℕ)
@@ -128,7 +143,8 @@ module _ (left right c : List ℕ) (zero : judgeAnswer left right c .code ≡ 0)
   followed-as side start path states blocks p = rw (after-judge side start path states blocks) p
 
   -- a side's number that is none
-  pub no-side : {side : ℕ} (start : ℕ) (path states blocks : List ℕ) {answer : Answer} → ¬ (side ≡ 0) → ¬ (side ≡ 1) → answer ≡ sixNumbers 25 4 0
+  pub no-side : {side : ℕ} (start : ℕ) (path states blocks : List ℕ) {answer : Answer} → ¬ (side ≡ 0) → ¬ (side ≡ 1)
+      → answer ≡ sixNumbers 25 4 0
       → Followed left right c side start path states blocks answer states blocks
   unfolding matchVerdict
   no-side {side} start path states blocks n m e =
@@ -154,14 +170,8 @@ module _ (left right c : List ℕ) (zero : judgeAnswer left right c .code ≡ 0)
       left-met =
           let h = accepted-sides left right c zero certified bytes .holding in
           let m = accepted-met left right c zero bytes in
-          rw left-run (record {
-            linked = h .linked;
-            linked′ = h .linked′;
-            formed = h .formed;
-            met = subst (λ (x : View). EveryObligation Meets x (certifiedRanks left right c)) (sym left-view) (m .0);
-            ranks′ = swap (certifiedRanks left right c);
-            met′ = subst (λ (x : View). EveryObligation Meets (flip x) (swap (certifiedRanks left right c))) (sym left-view) (m .1);
-          })
+          let w = subst WellFormed left-view (h .formed) in
+          rw left-run (met-on c (certifiedView left right c) (swap (certifiedRanks left right c)) (h .linked) (h .linked′) left-view w (m .0) (m .1))
 
       pub left-followed : {side : ℕ} (start : ℕ) (path states blocks : List ℕ) {answer : Answer} {states′ blocks′ : List ℕ} → side ≡ 0
           → Answered (verdictIn (s .ours) (s .theirs) c run start path states blocks) (flatMap entryBytes (matchedIn (s .ours) (s .theirs) c run path start))
@@ -182,14 +192,8 @@ module _ (left right c : List ℕ) (zero : judgeAnswer left right c .code ≡ 0)
       right-met =
           let h = accepted-sides left right c zero certified bytes .holding in
           let m = accepted-met left right c zero bytes in
-          rw right-run (record {
-            linked = h .linked′;
-            linked′ = h .linked;
-            formed = rw (h .turned) (flip-formed _ (h .formed));
-            met = subst (λ (x : View). EveryObligation Meets x (swap (certifiedRanks left right c))) (sym right-view) (m .1);
-            ranks′ = certifiedRanks left right c;
-            met′ = subst (λ (x : View). EveryObligation Meets (flip x) (certifiedRanks left right c)) (sym right-view) (m .0);
-          })
+          let w = flip-formed _ (subst WellFormed left-view (h .formed)) in
+          rw right-run (met-on c (flip (certifiedView left right c)) (certifiedRanks left right c) (h .linked′) (h .linked) right-view w (m .1) (m .0))
 
       pub right-followed : {side : ℕ} (start : ℕ) (path states blocks : List ℕ) {answer : Answer} {states′ blocks′ : List ℕ} → side ≡ 1
           → Answered (verdictIn (s .theirs) (s .ours) c run start path states blocks) (flatMap entryBytes (matchedIn (s .theirs) (s .ours) c run path start))

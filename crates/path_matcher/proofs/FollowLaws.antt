@@ -51,7 +51,8 @@ stored a k bytes l n h e =
 
 module _ (k : ℕ) (bytes : Entry → List ℕ) (each : (e : Entry) → length (bytes e) ≡ k) (entries : List Entry) where
   -- one entry more, of k bytes
-  written-more : {m : ℕ} {e : Entry} (l : List ℕ) {l′ : List ℕ} → At entries m e → take (k * m) l ≡ flatMap bytes (take m entries) → k * m + k ≤ length l
+  written-more : {m : ℕ} {e : Entry} (l : List ℕ) {l′ : List ℕ} → At entries m e
+      → take (k * m) l ≡ flatMap bytes (take m entries) → k * m + k ≤ length l
       → l′ ≡ take (k * m) l ++ bytes e ++ drop (k * m + k) l
       → (take (k * (m + 1)) l′ ≡ flatMap bytes (take (m + 1) entries)) × (length l′ ≡ length l)
   unfolding flatMap
@@ -211,7 +212,8 @@ module _ (ours theirs certificate : List ℕ) (run : Run) (path : List ℕ) (sta
           }
 
       staying : place + 1 < length path
-          → Standing v r path start (place + 1) block state count × At given (place + 1) (record { state = byteAt path (place + 1); block = block }) → Staying
+          → Standing v r path start (place + 1) block state count × At given (place + 1) (record { state = byteAt path (place + 1); block = block })
+          → Staying
       staying more q =
           record {
             more = more;
@@ -275,7 +277,8 @@ module _ (ours theirs certificate : List ℕ) (run : Run) (path : List ℕ) (sta
           rw (h .4) (pushing (standing-2c v r (all .formed) path (from .path-is) start (g .standing) (h .0) (h .1) (h .2) (h .3)))
       after-told (Push x) (inr h) = rw (h .3) (pushing (standing-on v r (all .formed) path (from .path-is) start (g .standing) (h .0) (h .1) (h .2)))
       after-told End (inl h) =
-          absurd (⊎-elim (λ a. h .1 (is2a-i v _ state a)) (⊎-elim (λ b. h .2 (is2b-i v r _ state b)) (λ c. h .3 (is2c-i v r _ state c))) (met-here (h .0)))
+          absurd (⊎-elim (λ a. h .1 (is2a-i v _ state a)) (⊎-elim (λ b. h .2 (is2b-i v r _ state b)) (λ c. h .3 (is2c-i v r _ state c)))
+          (met-here (h .0)))
       after-told End (inr h) = ending (standing-stop v r (all .formed) path (from .path-is) start (g .standing) (h .0) (h .1))
 
       -- the move that was read leads there

@@ -35,11 +35,13 @@ Answered verdict bytes bytes′ states blocks answer states′ blocks′ =
     (answer ≡ answerOf (sixNumbers 0 0) verdict) × ((states′ ≡ outputAfter verdict bytes states) × (blocks′ ≡ outputAfter verdict bytes′ blocks))
 
 module _ {verdict : Verdict ℕ} (bytes bytes′ states blocks : List ℕ) where
-  pub answered-refusal : {a answer : Answer} → verdict ≡ refusedWith a → answer ≡ a → Answered verdict bytes bytes′ states blocks answer states blocks
+  pub answered-refusal : {a answer : Answer} → verdict ≡ refusedWith a → answer ≡ a
+      → Answered verdict bytes bytes′ states blocks answer states blocks
   answered-refusal e q = rw (e, q) (refl, (refl, refl))
 
-  pub answered-success : {k : ℕ} {answer : Answer} {states′ blocks′ : List ℕ} → verdict ≡ goOn k → answer ≡ sixNumbers 0 0 k → states′ ≡ putFront bytes states
-      → blocks′ ≡ putFront bytes′ blocks → Answered verdict bytes bytes′ states blocks answer states′ blocks′
+  pub answered-success : {k : ℕ} {answer : Answer} {states′ blocks′ : List ℕ} → verdict ≡ goOn k → answer ≡ sixNumbers 0 0 k
+      → states′ ≡ putFront bytes states → blocks′ ≡ putFront bytes′ blocks
+      → Answered verdict bytes bytes′ states blocks answer states′ blocks′
   answered-success e q x y = rw e (q, (x, y))
 
 -- ---- test after test

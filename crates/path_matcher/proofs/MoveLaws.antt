@@ -109,7 +109,8 @@ module _ {ours theirs certificate : List ℕ} {run : Run} {path : List ℕ} {pla
         ∙ ap (λ (i : ℕ). obligationAt v r i state) step-named
 
     -- by the obligation's outcome
-    pub move-by : {o : Outcome} (o′ : Outcome) → o ≡ obligationIn ours theirs certificate run j state → o ≡ o′ → moveAfter o′ ≡ nextMove v r path place state
+    pub move-by : {o : Outcome} (o′ : Outcome) → o ≡ obligationIn ours theirs certificate run j state → o ≡ o′
+        → moveAfter o′ ≡ nextMove v r path place state
     unfolding nextMove
     move-by o′ e q = sym (rw (lt-ltb (place + 1) (length path) more) (ap moveAfter (sym (outcome-named) ∙ sym e ∙ q)))
 

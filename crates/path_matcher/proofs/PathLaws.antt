@@ -89,7 +89,8 @@ module _ (S : System) (path : List ℕ) where
   read-first h = record { states = λ k l. let e : k ≡ 0 = omega arith in rw e h; steps = λ k l. absurd (omega arith) }
 
   -- state i, which follows state k, is one more
-  pub read-more : (k : ℕ) {i : ℕ} → i ≡ k + 1 → ReadTo i → T (hasStep S (byteAt path k) (byteAt path i)) → byteAt path i < S .states → ReadTo (i + 1)
+  pub read-more : (k : ℕ) {i : ℕ} → i ≡ k + 1 → ReadTo i → T (hasStep S (byteAt path k) (byteAt path i))
+      → byteAt path i < S .states → ReadTo (i + 1)
   read-more k {i} e r h b =
       record {
         states = λ x l. ⊎-elim (λ q. rw q b) (λ m. r .states x m) (eq-or-lt-of-le (let z : x ≤ i = omega arith in z));
@@ -125,8 +126,9 @@ module _ (S : System) (path : List ℕ) where
   a-path some few r = sym (decides-false (path-decides 0 S path) (no-fault some few r))
 
 -- the word of the states that steps from s enter tells whether one enters u
-pub read-step : {side : List ℕ} → Linked side → (path : List ℕ) (k i : ℕ) {s u word : ℕ} {has : Bool} → s ≡ byteAt path k → u ≡ byteAt path i
-    → word ≡ enteredFrom side s → has ≡ hasBit word u → hasStep (systemIn side) (byteAt path k) (byteAt path i) ≡ has
+pub read-step : {side : List ℕ} → Linked side → (path : List ℕ) (k i : ℕ) {s u word : ℕ} {has : Bool}
+    → s ≡ byteAt path k → u ≡ byteAt path i → word ≡ enteredFrom side s → has ≡ hasBit word u
+    → hasStep (systemIn side) (byteAt path k) (byteAt path i) ≡ has
 unfolding hasStep
 read-step {side} linked path k i es eu ew eh =
     sym (linked .entered-are (byteAt path k) (byteAt path i)) ∙ ap₂ hasBit (ap (enteredFrom side) (sym es) ∙ sym ew) (sym eu) ∙ sym eh

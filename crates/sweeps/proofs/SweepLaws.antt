@@ -61,7 +61,8 @@ module _ (ours theirs certificate : List ℕ) (run : Run) (place : Place) where
         ∙ ap (λ (x : Outcome). progress (with j x ∷ sweptFrom (nextStep ours j)) y) e
 
     pub step-met : (clause : Clause) (x : ℕ) {y′ : Tally} {k : ℕ} → j < 256
-        → obligationIn ours theirs certificate run j (place .other) ≡ Met clause x → y′ ≡ addTo y clause → k ≡ nextStep ours j → InSweep start y′ k
+        → obligationIn ours theirs certificate run j (place .other) ≡ Met clause x → y′ ≡ addTo y clause
+        → k ≡ nextStep ours j → InSweep start y′ k
     unfolding progress along
     step-met clause x h e g q =
         let r = next-rises ours j h in

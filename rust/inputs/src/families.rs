@@ -64,55 +64,56 @@ pub fn random_system(random: &mut Random) -> System {
 /// Random tables, and what pruning leaves of a relation between equal marks. Where
 /// it leaves nothing, other tables are tried.
 pub fn pruned_system(random: &mut Random) -> System {
-    loop {
+    some_pruned(|| {
         let left = random_table(random, 5);
         let right = random_table(random, 5);
         let density = random.pick(&[70, 100, 100]);
         let related = relation(&left, &right, |s, t| {
             left.marks[s] == right.marks[t] && random.percent(density)
         });
-        let system = prune(System {
+        System {
             left,
             right,
             related,
-        });
-        if !system.pairs().is_empty() {
-            return system;
         }
-    }
+    })
 }
 
 /// Two small rings, and what pruning leaves of a random relation. Where a state and the
 /// next one are both related to a state, but not to the next one there, 2b and 2c may
 /// hold of the same step.
 pub fn pruned_rings(random: &mut Random) -> System {
-    loop {
+    some_pruned(|| {
         let (mut left, mut right) = (ring(random.within(2, 6)), ring(random.within(2, 6)));
         random.shuffle(&mut left.steps);
         random.shuffle(&mut right.steps);
         let density = random.pick(&[50, 70, 85]);
         let related = relation(&left, &right, |_, _| random.percent(density));
-        let system = prune(System {
+        System {
             left,
             right,
             related,
-        });
-        if !system.pairs().is_empty() {
-            return system;
         }
-    }
+    })
 }
 
 /// A split system, and what pruning leaves when some pairs have been taken out.
 pub fn thinned_system(random: &mut Random) -> System {
-    loop {
+    some_pruned(|| {
         let mut system = split_system(random);
         for row in &mut system.related {
             for pair in row {
                 *pair &= random.percent(85);
             }
         }
-        let system = prune(system);
+        system
+    })
+}
+
+/// Of the systems that are made, what pruning leaves of the first that keeps a pair.
+fn some_pruned(mut make: impl FnMut() -> System) -> System {
+    loop {
+        let system = prune(make());
         if !system.pairs().is_empty() {
             return system;
         }

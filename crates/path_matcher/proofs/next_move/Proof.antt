@@ -70,7 +70,8 @@ smallest-after-requires c κs = search needs
 returns-5 : tie.Need-returns-5
 returns-5 c =
     let start = c .before .before .before .before .before .before in
-    let e = c .before .smallest-after .ensures ∙ ap (λ (s : ℕ). firstBit (enteredFrom (now (start .args .ours)) s)) (c .before .before .byte .ensures .0) in
+    let own = c .before in
+    let e = own .smallest-after .ensures ∙ ap (λ (s : ℕ). firstBit (enteredFrom (now (start .args .ours)) s)) (own .before .byte .ensures .0) in
     move-none (start .pre .0) (start .pre .1) (omega arith) (inl (after-some (start .pre .0 .linked) _ e (c .if2 .taken) .0))
 
 smallest-after-requires-2 : tie.Need-smallest-after-requires-2
