@@ -6,6 +6,7 @@ use mathlib.Core.Logic.{_↔_, ⊎-elim}
 use mathlib.Core.List.{List}
 use native.Mathlib.Omega.{arith}
 use Rattle.lists.proofs.RisingLaws.{Rise, Within, rising-same}
+use Rattle.bisimulation.specs.Systems.{Step}
 use Rattle.tables.specs.declared.Head.{Head}
 use Rattle.tables.specs.Table.{stepsOf, stepsPart, fromOf, toOf}
 use Rattle.tables.specs.Model.{systemOf}
@@ -14,10 +15,6 @@ use Rattle.table_reader.specs.TableReading.{readTable}
 use Rattle.table_reader.specs.TableCauses.{InAnyOrder}
 use Rattle.table_reader.proofs.OrderLaws.{rising-greater, steps-rise}
 use Rattle.table_reader.proofs.TableLaws.{table-ok, table-formed, steps-none}
-
--- The table has a step from a to b.
-abbrev pub HasStep : List ℕ → (a b : ℕ) → Type 0
-HasStep s a b = (j : ℕ) × (j < stepsOf s) × (fromOf (stepsPart s) j ≡ a) × (toOf (stepsPart s) j ≡ b)
 
 -- Step j as one number, by which steps compare as they do by from, then by to.
 asNumber : List ℕ → ℕ → ℕ
@@ -37,14 +34,15 @@ numbers-rise s e v i j a l =
     ⊎-elim (λ g. omega arith) (λ g. omega arith) (rising-greater s (stepsOf s) (steps-rise s (steps-none s e .1) v) i j a l)
 
 -- steps of the other are numbers of the other
-numbers-within : (s r : List ℕ) → ((a b : ℕ) → HasStep s a b → HasStep r a b) → Within (asNumber s) (stepsOf s) (asNumber r) (stepsOf r)
-unfolding asNumber
+numbers-within : (s r : List ℕ) → ((a b : ℕ) → Step (systemOf s) a b → Step (systemOf r) a b)
+    → Within (asNumber s) (stepsOf s) (asNumber r) (stepsOf r)
+unfolding asNumber systemOf
 numbers-within s r f j l =
     let p = f (fromOf (stepsPart s) j) (toOf (stepsPart s) j) (j, l, refl, refl) in
     (p .0, p .1, ap₂ (λ (x y : ℕ). x * 64 + y) (p .2) (p .3))
 
 module _ (s r : List ℕ) {h k : Head} (e : readTable s ≡ Good h) (d : readTable r ≡ Good k) (v : ¬ InAnyOrder s) (w : ¬ InAnyOrder r)
-    (same : (a b : ℕ) → HasStep s a b ↔ HasStep r a b) where
+    (same : (a b : ℕ) → Step (systemOf s) a b ↔ Step (systemOf r) a b) where
   both : (stepsOf s ≡ stepsOf r) × ((j : ℕ) → j < stepsOf s → asNumber s j ≡ asNumber r j)
   both =
       rising-same (asNumber s) (asNumber r) (stepsOf s) (stepsOf r) (numbers-rise s e v) (numbers-rise r d w)

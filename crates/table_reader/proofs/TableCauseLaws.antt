@@ -1,7 +1,7 @@
 -- The table reader's part of demand 1: a table is refused with the six numbers of the first cause that applies to its bytes, and read where none does.
 -- The reader is a chain of tests in the order of the causes, and each test decides its cause. Assumes nothing.
 use Prim.Native.Nat.{ℕ}
-use mathlib.Core.Path.{_≡_, refl, ap, _∙_}
+use mathlib.Core.Path.{_≡_, refl, ap, _∙_, subst}
 use mathlib.Core.Bool.{Bool}
 use mathlib.Core.List.{List, [], _∷_, _++_}
 use native.Mathlib.Omega.{arith}
@@ -51,33 +51,54 @@ on-good file (Good k) e = ap Good (cc e)
 on-good file (Refused r) e = absurd (let z : _≡_ {A = ℕ} 0 1 = cc e in omega arith)
 
 module _ (file : ℕ) (s : List ℕ) where
-  abbrev steps-on : TableRead → Verdict Head
-  steps-on x = tableVerdict file (withSteps s x)
+  abbrev on : TableRead → Verdict Head
+  on = tableVerdict file
+
+  -- the header's tests decide its causes
+  header-decided : Decided (λ h. h ≡ headOf s) (headerCauses file s) (on (readHeader s))
+  unfolding readHeader readSizes
+  header-decided =
+      decided-test on (Refused Short) _ (ltb-decides (length s) 9) refl
+      (decided-test on (Refused Magic) _ (not-decides (magic-decides 0x54 s)) refl
+      (decided-test on (Refused Version) _ (not-decides (version-decides s)) refl
+      (decided-test on (Refused States) _ (not-decides (states-decides s)) refl
+      (decided-test on (Refused Start) _ (leb-decides (statesOf s) (startOf s)) refl
+      (decided-test on (Refused Steps) _ (ltb-decides 256 (stepsOf s)) refl
+      (decided-test on (Refused Length) _ (not-decides (eqb-decides (length s) (tableLength (statesOf s) (stepsOf s)))) refl
+      (decided-none refl)))))))
+
+  -- and those of the steps theirs
+  steps-decided : Decided (λ h. h ≡ headOf s) (endCauses file s ++ orderCauses file s) (on (readSteps (headOf s) (stepsPart s)))
+  unfolding readSteps
+  steps-decided =
+      decided-search on (stepsOf s) (sixNumbers 8 file) (λ j. Refused (StepEnd j)) _ (outside-decides (stepsPart s) (statesOf s)) (λ j. refl)
+      (decided-either on {xs = doubledCauses file s} {ys = notGreaterCauses file s} _ _ _ (eqb-decides (versionOf s) 1)
+      (decided-end (decided-search on (stepsOf s) (sixNumbers 9 file) (λ j. Refused (Doubled j)) _ (doubled-decides (stepsPart s)) (λ j. refl)
+      (decided-none refl)))
+      (decided-end (decided-search on (stepsOf s) (sixNumbers 24 file) (λ j. Refused (NotGreater j)) _ (not-greater-decides s) (λ j. refl)
+      (decided-none refl))))
+
+  header-then-steps : (x : TableRead) → (on x andThen λ h. on (readSteps h (stepsPart s))) ≡ on (withSteps s x)
+  header-then-steps (Good h) = refl
+  header-then-steps (Refused r) = refl
 
   -- the reader goes on with the header where no cause applies, and refuses with the numbers of the first that does
-  pub table-decided : Decided (λ h. h ≡ headOf s) (tableCauses file s) (tableVerdict file (readTable s))
-  unfolding readTable readHeader readSizes readSteps
+  pub table-decided : Decided (λ h. h ≡ headOf s) (tableCauses file s) (on (readTable s))
+  unfolding readTable
   table-decided =
-      decided-test steps-on (Refused Short) _ (ltb-decides (length s) 9) refl
-      (decided-test steps-on (Refused Magic) _ (not-decides (magic-decides 0x54 s)) refl
-      (decided-test steps-on (Refused Version) _ (not-decides (version-decides s)) refl
-      (decided-test steps-on (Refused States) _ (not-decides (states-decides s)) refl
-      (decided-test steps-on (Refused Start) _ (leb-decides (statesOf s) (startOf s)) refl
-      (decided-test steps-on (Refused Steps) _ (ltb-decides 256 (stepsOf s)) refl
-      (decided-test steps-on (Refused Length) _ (not-decides (eqb-decides (length s) (tableLength (statesOf s) (stepsOf s)))) refl
-      (decided-search (tableVerdict file) (stepsOf s) (sixNumbers 8 file) (λ j. Refused (StepEnd j)) _ (outside-decides (stepsPart s) (statesOf s)) (λ j. refl)
-      (decided-either (tableVerdict file) {xs = doubledCauses file s} {ys = notGreaterCauses file s} _ _ _ (eqb-decides (versionOf s) 1)
-      (decided-end (decided-search (tableVerdict file) (stepsOf s) (sixNumbers 9 file) (λ j. Refused (Doubled j)) _ (doubled-decides (stepsPart s)) (λ j. refl)
-      (decided-none refl)))
-      (decided-end (decided-search (tableVerdict file) (stepsOf s) (sixNumbers 24 file) (λ j. Refused (NotGreater j)) _ (not-greater-decides s) (λ j. refl)
-      (decided-none refl)))))))))))
+      subst (Decided (λ h. h ≡ headOf s) (tableCauses file s)) (header-then-steps (readHeader s))
+      (decided-then (on (readHeader s)) header-decided (λ h e n. rw e steps-decided))
+
+  -- a good header is what the bytes say, and no cause of the header applies
+  pub header-none : {h : Head} → readHeader s ≡ Good h → (h ≡ headOf s) × NoCause (headerCauses file s)
+  header-none e = on-none (ap on e) header-decided
 
   -- what is read is the header, and no cause applies
   pub good-none : {h : Head} → readTable s ≡ Good h → (h ≡ headOf s) × NoCause (tableCauses file s)
-  good-none e = on-none (ap (tableVerdict file) e) table-decided
+  good-none e = on-none (ap on e) table-decided
 
   pub none-good : NoCause (tableCauses file s) → readTable s ≡ Good (headOf s)
-  none-good n = let q = none-on (tableVerdict file (readTable s)) table-decided n in on-good file (readTable s) (q .1 ∙ ap goOn (q .2))
+  none-good n = let q = none-on (on (readTable s)) table-decided n in on-good file (readTable s) (q .1 ∙ ap goOn (q .2))
 
 -- a table that is read is well formed, and the other way round, whichever file it is
 pub good-formed : (s : List ℕ) {h : Head} → readTable s ≡ Good h → WellFormedTable s

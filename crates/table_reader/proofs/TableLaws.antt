@@ -18,8 +18,8 @@ use Rattle.bisimulation.specs.Systems.{NoTwice}
 use Rattle.tables.specs.declared.Head.{Head}
 use Rattle.table_reader.specs.declared.TableRead.the-variants.{Good}
 use Rattle.tables.specs.Table.{versionOf, statesOf, startOf, stepsOf, initialOf, tableLength, labelsAt, stepsAt, stepsEnd, labelsPart, stepsPart}
-use Rattle.table_reader.specs.TableReading.{readTable}
-use Rattle.table_reader.specs.TableCauses.{EndOutside, EqualsEarlier, headerCauses, endCauses, orderCauses, tableCauses}
+use Rattle.table_reader.specs.TableReading.{headOf, readTable}
+use Rattle.table_reader.specs.TableCauses.{EndOutside, EqualsEarlier, headerCauses, endCauses, orderCauses}
 use Rattle.answers.specs.Numbers.{sixNumbers}
 use Rattle.answers.specs.Causes.{NoCause}
 use Rattle.answers.proofs.CauseLaws.{append-none, below-none, none-at}
@@ -43,24 +43,28 @@ pub record HeadOk (s : List ℕ) (h : Head) : Type 0 where
   pub steps-le : stepsOf s ≤ 256
   pub long : length s ≡ tableLength (statesOf s) (stepsOf s)
 
-pub table-ok : (s : List ℕ) {h : Head} → readTable s ≡ Good h → HeadOk s h
-table-ok s {h} e =
-    let g = good-none 0 s e in
-    let none = none-at (tableCauses 0 s) (g .1) in
-    let n = decides-stable (states-decides s) (none 3) in
+-- so it is where no cause of the header applies
+pub head-ok : (s : List ℕ) {h : Head} → h ≡ headOf s → NoCause (headerCauses 0 s) → HeadOk s h
+head-ok s {h} e n =
+    let none = none-at (headerCauses 0 s) n in
+    let limits = decides-stable (states-decides s) (none 3) in
     let start : statesOf s ≤ startOf s → ⊥ = none 4 in
     let steps : 256 < stepsOf s → ⊥ = none 5 in
     record {
-      version-is = ap (λ (k : Head). k .version) (g .0);
-      states-is = ap (λ (k : Head). k .states) (g .0);
-      steps-is = ap (λ (k : Head). k .steps) (g .0);
-      initial-is = ap (λ (k : Head). k .initial .0) (g .0);
-      states-pos = n .0;
-      states-le = n .1;
+      version-is = ap (λ (k : Head). k .version) e;
+      states-is = ap (λ (k : Head). k .states) e;
+      steps-is = ap (λ (k : Head). k .steps) e;
+      initial-is = ap (λ (k : Head). k .initial .0) e;
+      states-pos = limits .0;
+      states-le = limits .1;
       start-lt = omega arith;
       steps-le = omega arith;
       long = decides-stable (eqb-decides (length s) (tableLength (statesOf s) (stepsOf s))) (none 6);
     }
+
+-- and so where a table is read
+pub table-ok : (s : List ℕ) {h : Head} → readTable s ≡ Good h → HeadOk s h
+table-ok s e = let g = good-none 0 s e in head-ok s (g .0) (append-none (headerCauses 0 s) (endCauses 0 s ++ orderCauses 0 s) (g .1) .0)
 
 -- ---- the two parts
 

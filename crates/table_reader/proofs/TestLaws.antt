@@ -1,10 +1,14 @@
 -- Laws of the reader's tests: each passes exactly where what it tests holds. Assumes nothing.
 use Prim.Native.Nat.{ℕ, zero, suc, _≤_, _<_}
 use mathlib.Core.Path.{_≡_}
-use mathlib.Core.Logic.{_⊎_}
+use mathlib.Core.Logic.{_⊎_, inl, inr}
 use mathlib.Core.List.{List}
+use native.Mathlib.Omega.{arith}
+use Rattle.lists.specs.Below.{firstBelow}
+use Rattle.lists.proofs.BelowLaws.{first-least}
 use Rattle.tables.specs.Table.{magicFits, versionOf, statesOf, stepsPart, fromOf, toOf}
 use Rattle.table_reader.specs.TableReading.{versionFits, statesFit, endsOutside, sameStep, doubled, greater, notGreater}
+use Rattle.table_reader.specs.EndsSeen.{EndsBelow}
 use Rattle.table_reader.specs.TableCauses.{MagicFits, NotGreater}
 use Rattle.answers.proofs.DecideLaws.{
   Decides,
@@ -37,6 +41,15 @@ module _ (steps : List ℕ) where
   pub outside-decides : (n j : ℕ) → Decides (endsOutside steps n j) ((n ≤ fromOf steps j) ⊎ (n ≤ toOf steps j))
   unfolding endsOutside
   outside-decides n j = or-decides (leb-decides _ _) (leb-decides _ _)
+
+  -- where no step has an end of n or more, every end is below what n does not exceed
+  pub outside-none : (n k m : ℕ) {o : ℕ} → o ≡ firstBelow m (endsOutside steps n) → m ≤ o → n ≤ k → EndsBelow k steps m
+  outside-none n k m e none le j l =
+      let d = outside-decides n j in
+      let inside : (n ≤ fromOf steps j) ⊎ (n ≤ toOf steps j) → ⊥ = λ o. first-least m (endsOutside steps n) j (omega arith) (d .complete o) in
+      let f : n ≤ fromOf steps j → ⊥ = λ a. inside (inl a) in
+      let t : n ≤ toOf steps j → ⊥ = λ a. inside (inr a) in
+      (omega arith, omega arith)
 
   pub same-decides : (j i : ℕ) → Decides (sameStep steps j i) ((fromOf steps i ≡ fromOf steps j) × (toOf steps i ≡ toOf steps j))
   unfolding sameStep

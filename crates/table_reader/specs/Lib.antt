@@ -1,3 +1,4 @@
 pub mod TableReading
 pub mod TableVerdicts
 pub mod TableCauses
+pub mod EndsSeen

@@ -15,6 +15,7 @@ ghost use Rattle.lists.specs.Below.{firstBelow};
 ghost use Rattle.answers.specs.Verdicts.{refusalOf};
 ghost use Rattle.tables.specs.Table.{magicFits};
 ghost use Rattle.table_reader.specs.TableReading.{headOf, readSizes, readHeader, readTable, endsOutside, doubled, greater, notGreater};
+ghost use Rattle.table_reader.specs.EndsSeen.{EndsBelow};
 ghost use Rattle.table_reader.specs.TableVerdicts.{tableVerdict};
 
 // What reading a table gives.
@@ -111,22 +112,23 @@ fn first_outside(steps: &[u8], n: usize, m: usize) -> usize
     m
 }
 
-// The first of m steps that equals an earlier one, and m where there is none. A step from s to u that was met sets bit u % 64 of word 4 s + u / 64.
+// The first of m steps that equals an earlier one, and m where there is none; their ends are below 64. One word of ends seen for each state has a bit
+// exactly where a step so far has that from and to.
 fn first_doubled(steps: &[u8], m: usize) -> usize
+    requires { ⌜ EndsBelow 64 (now steps) m ⌝ }
     ensures { λ r. ⌜ r ≡ firstBelow m (doubled (now (steps .entry))) ⌝ }
 {
-    let mut met: [u64; 1024] = [0; 1024];
+    let mut seen: [Row; Head::MAX_STATES] = [Row::empty(); Head::MAX_STATES];
     let mut j: usize = 0;
     while j < m {
         let s = from(steps, j);
         let u = to(steps, j);
-        let at = s * 4 + u / 64;
-        let word = Row(met[at]);
-        if word.has(u % 64) {
+        let ends = seen[s];
+        if ends.has(u) {
             return j;
         }
-        let more = word.add(u % 64);
-        met[at] = more.0;
+        let more = ends.add(u);
+        seen[s] = more;
         j += 1;
     }
     m

@@ -12,6 +12,9 @@ use Rattle.table_reader.specs.declared.TableRead.{TableRead}
 use Rattle.table_reader.specs.declared.TableRead.the-variants.{Good, Refused}
 use Rattle.refusals.specs.declared.TableRefusal.the-variants.{StepEnd, Doubled, NotGreater}
 use Rattle.table_reader.specs.TableReading.{readTable, readHeader, readSteps, withSteps, endsOutside, doubled, notGreater}
+use Rattle.table_reader.proofs.TestLaws.{outside-none}
+use Rattle.table_reader.proofs.TableCauseLaws.{header-none}
+use Rattle.table_reader.proofs.TableLaws.{head-ok}
 use Rattle.table_reader.proofs.read_table.Statement.{statement}
 use Rattle.table_reader.proofs.read_table.Tie as tie
 
@@ -20,12 +23,18 @@ by-header : (s : List ℕ) {x : TableRead} → readHeader s ≡ x → readTable 
 unfolding readTable
 by-header s e = ap (withSteps s) e
 
-by-steps : (c : tie.After-steps)
-    → readTable (now (c .before .before .before .before .before .before .args .s)) ≡ readSteps (c .before .before .read .given .0 .0) (now (c .steps .result))
-by-steps c =
-    by-header (now (c .before .before .before .before .before .before .args .s))
-    (sym (c .before .before .before .before .read-header .ensures) ∙ c .before .before .read .given .1)
-    ∙ ap (readSteps _) (sym (c .steps .ensures))
+module _ (c : tie.After-steps) where
+  abbrev bytes : List ℕ
+  bytes = now (c .before .before .before .before .before .before .args .s)
+
+  abbrev head : Head
+  head = c .before .before .read .given .0 .0
+
+  good-header : readHeader bytes ≡ Good head
+  good-header = sym (c .before .before .before .before .read-header .ensures) ∙ c .before .before .read .given .1
+
+  by-steps : readTable bytes ≡ readSteps head (now (c .steps .result))
+  by-steps = by-header bytes good-header ∙ ap (readSteps head) (sym (c .steps .ensures))
 
 module _ (h : Head) (l : List ℕ) (o : ℕ) (oe : o ≡ firstBelow (h .steps) (endsOutside l (h .states))) where
   steps-outside : o < h .steps → readSteps h l ≡ Refused (StepEnd o)
@@ -77,7 +86,10 @@ returns-2 c =
     sym (by-steps (c .before .before .before) ∙ steps-outside _ _ (f .result) (f .ensures) (c .if1 .taken))
 
 first-doubled-requires : tie.Need-first-doubled-requires
-first-doubled-requires c κs = search needs
+first-doubled-requires c κs =
+    let h = header-none 0 _ (good-header (c .before .before .before .before .before)) in
+    let o = head-ok (bytes (c .before .before .before .before .before)) (h .0) (h .1) in
+    outside-none _ _ 64 _ (c .before .before .before .before .first-outside .ensures) (c .before .before .if1 .left) (rw (o .states-is) (o .states-le))
 
 returns-3 : tie.Need-returns-3
 returns-3 c =
