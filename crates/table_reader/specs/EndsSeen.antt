@@ -13,7 +13,7 @@ use Rattle.tables.specs.Table.{fromOf, toOf}
 abbrev pub EndsBelow : ℕ → List ℕ → ℕ → Type 0
 EndsBelow n steps m = (j : ℕ) → j < m → (fromOf steps j < n) × (toOf steps j < n)
 
--- The word of state s.
+-- The word of state s; past the last word it is empty.
 abbrev pub wordOf : List Row → ℕ → ℕ
 wordOf seen s = getD seen s (record { 0 = 0 }) .0
 
