@@ -2,3 +2,4 @@
 pub mod DecideLaws
 pub mod CauseLaws
 pub mod VerdictLaws
+pub mod CheckedLaws

@@ -5,6 +5,8 @@ use mathlib.Core.List.{List, [], _∷_}
 use Rattle.lists.specs.Lists.{putFront}
 use Rattle.answers.specs.Numbers.{blank}
 use Rattle.answers.specs.declared.Answer.{Answer}
+use Rattle.answers.specs.declared.Checked.{Checked}
+use Rattle.answers.specs.declared.Checked.the-variants.{Passed, Refused}
 
 -- Go on with what was found, or stop with the answer.
 pub data Verdict (A : Type 0) : Type 0 where
@@ -24,6 +26,11 @@ passed = goOn tt
 -- That, where the test holds, and the refusal where it does not.
 abbrev pub passIf : Bool → Answer → Verdict (Unit {0})
 passIf test answer = cond test passed (refusedWith answer)
+
+-- The code's enum for a verdict that finds nothing.
+abbrev pub asChecked : Verdict (Unit {0}) → Checked
+asChecked (goOn x) = Passed
+asChecked (refusedWith answer) = Refused answer
 
 -- The first that refuses along a list; each is handed what the one before it found.
 unfoldable pub along : {A C : Type 0} → (C → A → Verdict A) → List C → A → Verdict A

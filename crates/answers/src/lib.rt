@@ -9,3 +9,9 @@ pub struct Answer {
     pub c: usize,
     pub d: usize,
 }
+
+// Whether a test passes, or what it is refused with.
+pub enum Checked {
+    Passed,
+    Refused(Answer),
+}

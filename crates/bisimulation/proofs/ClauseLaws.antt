@@ -178,15 +178,14 @@ pub accepts-iff : (v : View) → WellFormed v → (r : Ranks) → T (accepts v r
 unfolding accepts
 accepts-iff v w r = (
   λ h. record {
-    initial = initial-e v w (search (and-l, and-r));
-    initial′ = initial-e (flip v) (flip-formed v w) (search (and-l, and-r));
+    starts = (initial-e v w (search (and-l, and-r)), initial-e (flip v) (flip-formed v w) (search (and-l, and-r)));
     labels = labels-e v w (search (and-l, and-r));
     own-met = obligations-e v w r (search (and-l, and-r));
     other-met = obligations-e (flip v) (flip-formed v w) (swap r) (search (and-l, and-r));
   },
   λ c.
-      let a = initial-i v w (c .initial) in
-      let b = initial-i (flip v) (flip-formed v w) (c .initial′) in
+      let a = initial-i v w (c .starts .0) in
+      let b = initial-i (flip v) (flip-formed v w) (c .starts .1) in
       let d = labels-i v (c .labels) in
       let e = obligations-i v w r (c .own-met) in
       let f = obligations-i (flip v) (flip-formed v w) (swap r) (c .other-met) in

@@ -96,8 +96,8 @@ module _ (v : View) where
 pub complete : (v : View) → WellFormed v → StepPathProperty v → T (succeeds v)
 unfolding succeeds
 complete v w p =
-    let a = initial-i v w (p .initial) in
-    let b = initial-i (flip v) (flip-formed v w) (p .initial′) in
+    let a = initial-i v w (p .starts .0) in
+    let b = initial-i (flip v) (flip-formed v w) (p .starts .1) in
     let c = labels-i v (p .labels) in
     let d = matched-none-unmatched v (p .own-paths) in
     let e = matched-none-unmatched (flip v) (p .other-paths) in

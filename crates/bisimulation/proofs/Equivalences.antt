@@ -7,7 +7,7 @@ use Rattle.bisimulation.specs.Judge.{accepts}
 use Rattle.bisimulation.specs.Maker.{made, succeeds}
 use Rattle.bisimulation.specs.PathProperty.{PathProperty}
 use Rattle.bisimulation.specs.StepPaths.{StepPathProperty}
-use Rattle.bisimulation.specs.Systems.{View, flip, Ranks, Bytes, WellFormed, Plain, InitialRelated}
+use Rattle.bisimulation.specs.Systems.{View, Ranks, Bytes, WellFormed, Plain, StartsRule}
 use Rattle.bisimulation.proofs.Complete.{complete}
 use Rattle.bisimulation.proofs.Made.{made-accepted, made-bytes}
 use Rattle.bisimulation.proofs.PlainPaths.{plain-iff-steps}
@@ -38,7 +38,7 @@ module _ (v : View) (w : WellFormed v) where
 
 -- where each table has one initial state, the rule for initial states is that the two are related
 pub one-initial : (v : View) (a b : ℕ) → ((s : ℕ) → v .own .initial s ≡ eqb s a) → ((t : ℕ) → v .other .initial t ≡ eqb t b)
-    → (InitialRelated v × InitialRelated (flip v)) ↔ T (v .related a b)
+    → StartsRule v ↔ T (v .related a b)
 one-initial v a b f g = (
   λ p. let q = p .0 a (rw (f a) (eqb-refl a)) in rw (eqb→eq (q .0) b (rw (g (q .0)) at (q .1))) at (q .2),
   λ h. (

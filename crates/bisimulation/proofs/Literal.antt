@@ -22,7 +22,7 @@ use Rattle.bisimulation.proofs.Made.{made-small, made-accepted}
 certified-map : (P Q : View → Ranks → ℕ → ℕ → Type 0) (v : View) (r q : Ranks) → (EveryObligation P v r → EveryObligation Q v q)
     → (EveryObligation P (flip v) (swap r) → EveryObligation Q (flip v) (swap q)) → Certified P v r → Certified Q v q
 certified-map P Q v r q f g c =
-    record { initial = c .initial; initial′ = c .initial′; labels = c .labels; own-met = f (c .own-met); other-met = g (c .other-met) }
+    record { starts = c .starts; labels = c .labels; own-met = f (c .own-met); other-met = g (c .other-met) }
 
 module _ (v : View) (w : WellFormed v) (r : Ranks) where
   open View v using (own, other, related)

@@ -117,8 +117,7 @@ module _ (v : View) (w : WellFormed v) (h : T (succeeds v)) where
   unfolding succeeds
   made-accepted =
       accepts-iff v w (made v) .1 (record {
-        initial = initial-e v w (search (and-l, and-r));
-        initial′ = initial-e (flip v) (flip-formed v w) (search (and-l, and-r));
+        starts = (initial-e v w (search (and-l, and-r)), initial-e (flip v) (flip-formed v w) (search (and-l, and-r)));
         labels = labels-e v w (search (and-l, and-r));
         own-met = side-met v w (search (and-l, and-r)) (search (and-l, and-r));
         other-met = side-met (flip v) (flip-formed v w) (search (and-l, and-r)) (search (and-l, and-r));

@@ -15,7 +15,7 @@ use Rattle.bisimulation.specs.Judge.{accepts}
 use Rattle.bisimulation.specs.Maker.{made, succeeds}
 use Rattle.bisimulation.specs.Namjoshi.{NoDescent, State, joint, Bisimulation, BisimulationWithoutConjunct, InitialStatesRelated, SomeRank}
 use Rattle.bisimulation.specs.PathProperty.{PathProperty}
-use Rattle.bisimulation.specs.Systems.{NoTwice, View, flip, Ranks, swap, Bytes, WellFormed, Plain, InitialRelated, LabelsEqual}
+use Rattle.bisimulation.specs.Systems.{NoTwice, View, flip, Ranks, swap, Bytes, WellFormed, Plain, StartsRule, LabelsEqual}
 use Rattle.bisimulation.specs.Triples.{stepOf, ownRank, tripleRank, raised}
 use Rattle.bisimulation.proofs.ClauseLaws.{flip-formed, initial-i, labels-i}
 use Rattle.bisimulation.proofs.Equivalences.{succeeds-iff-bytes, succeeds-iff-property}
@@ -142,13 +142,13 @@ module _ (v : View) (w : WellFormed v) (k : Plain v) (r : Ranks) where
   side-open = of-side (Meets v r) _ open-at
 
 -- initial states by number and by the paper's states
-pub initial-by-number : (v : View) → WellFormed v → InitialStatesRelated v → InitialRelated v × InitialRelated (flip v)
+pub initial-by-number : (v : View) → WellFormed v → InitialStatesRelated v → StartsRule v
 initial-by-number v w p = (
   λ s a. let q = p .0 (s, w .here .initial< s a) a in (q .0 .0, q .1, q .2),
   λ t a. let q = p .1 (t, w .there .initial< t a) a in (q .0 .0, q .1, q .2),
 )
 
-pub initial-by-state : (v : View) → WellFormed v → InitialRelated v × InitialRelated (flip v) → InitialStatesRelated v
+pub initial-by-state : (v : View) → WellFormed v → StartsRule v → InitialStatesRelated v
 initial-by-state v w p = (
   λ s a. let q = p .0 (s .0) a in ((q .0, w .there .initial< (q .0) (q .1)), q .1, q .2),
   λ t a. let q = p .1 (t .0) a in ((q .0, w .here .initial< (q .0) (q .1)), q .1, q .2),
@@ -164,7 +164,7 @@ module _ (v : View) (w : WellFormed v) (k : Plain v) where
   -- initial states, labels and the obligations of both sides, put together
   certified-of : (Clauses : View → Ranks → ℕ → ℕ → Type 0) (r : Ranks) → InitialStatesRelated v → LabelsEqual v
       → EveryObligation Clauses v r → EveryObligation Clauses (flip v) (swap r) → Certified Clauses v r
-  certified-of Clauses r p m f g = let i = initial-by-number v w p in record { initial = i .0; initial′ = i .1; labels = m; own-met = f; other-met = g }
+  certified-of Clauses r p m f g = record { starts = initial-by-number v w p; labels = m; own-met = f; other-met = g }
 
   -- Demand 2, how the two meet, from the paper to document 01: a certificate of which the paper's clauses hold literally is accepted
   pub bisimulation-accepted : NoTwice (v .own) → NoTwice (v .other) → (r : Ranks)
@@ -180,7 +180,7 @@ module _ (v : View) (w : WellFormed v) (k : Plain v) where
   pub accepted-bisimulation : (r : Ranks) → T (accepts v r) → InitialStatesRelated v × Bisimulation v _<_ (tripleRank v (raised v r))
   accepted-bisimulation r h =
       let c = accepted-literal v w r h in
-      (initial-by-state v w (c .initial, c .initial′), literal-bisimulation (raised v r) c)
+      (initial-by-state v w (c .starts), literal-bisimulation (raised v r) c)
 
   -- Demand 2, how the two meet, both ways: document 01's clauses hold of A and C ranks as they stand exactly where the paper's clauses without
   -- the conjunct of 2c hold of the rank of triples that they give
@@ -189,7 +189,7 @@ module _ (v : View) (w : WellFormed v) (k : Plain v) where
   certified-iff-triples o o′ r =
       let s = open-sides v _<_ (tripleRank v r) w in (
         λ c. (
-          initial-by-state v w (c .initial, c .initial′),
+          initial-by-state v w (c .starts),
           s .1 (c .labels, open-side v w k r (c .own-met), open-side (flip v) (flip-formed v w) (flip-plain v k) (swap r) (c .other-met)),
         ),
         λ p.

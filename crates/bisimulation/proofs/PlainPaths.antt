@@ -146,15 +146,13 @@ flip-plain v k = record { silent = k .silent′; silent′ = k .silent; serves =
 pub plain-iff-steps : (v : View) → WellFormed v → Plain v → PathProperty v ↔ StepPathProperty v
 plain-iff-steps v w k = (
   λ p. record {
-    initial = p .initial;
-    initial′ = p .initial′;
+    starts = p .starts;
     labels = p .labels;
     own-paths = find-steps v w k (p .own-paths);
     other-paths = find-steps (flip v) (flip-formed v w) (flip-plain v k) (p .other-paths);
   },
   λ p. record {
-    initial = p .initial;
-    initial′ = p .initial′;
+    starts = p .starts;
     labels = p .labels;
     own-paths = forget-steps v w (p .own-paths);
     other-paths = forget-steps (flip v) (flip-formed v w) (p .other-paths);

@@ -298,8 +298,7 @@ pub sound : (v : View) (r : Ranks) → WellFormed v → T (accepts v r) → Step
 sound v r w h =
     let c = accepts-iff v w r .0 h in
     record {
-      initial = c .initial;
-      initial′ = c .initial′;
+      starts = c .starts;
       labels = c .labels;
       own-paths = λ s t p J q. (matchPath v r s J t, matcher-fits v r (swap r) w (c .own-met) (c .other-met) s t p J q);
       other-paths = λ t s p J q. (matchPath (flip v) (swap r) t J s, matcher-fits (flip v) (swap r) r (flip-formed v w) (c .other-met) (c .own-met) t s p J q);

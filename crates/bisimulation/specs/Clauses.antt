@@ -3,7 +3,7 @@ use Prim.Native.Nat.{ℕ, _<_}
 use mathlib.Core.Path.{_≡_}
 use mathlib.Core.Logic.{_⊎_}
 use lib.Dec.{T}
-use Rattle.bisimulation.specs.Systems.{View, Ranks, flip, swap, Stays, InitialRelated, LabelsEqual}
+use Rattle.bisimulation.specs.Systems.{View, Ranks, flip, swap, Stays, StartsRule, LabelsEqual}
 
 -- The obligation of the own step j, from s to u, at the state t: s and t are related.
 module _ (v : View) (j t : ℕ) where
@@ -40,8 +40,7 @@ EveryObligation Met v r = (j t : ℕ) → j < v .own .steps → T (v .related (v
 
 -- Initial states related, labels equal, and every obligation of both sides met, in the sense given.
 pub record Certified (Met : View → Ranks → ℕ → ℕ → Type 0) (v : View) (r : Ranks) : Type 0 where
-  pub initial : InitialRelated v
-  pub initial′ : InitialRelated (flip v)
+  pub starts : StartsRule v
   pub labels : LabelsEqual v
   pub own-met : EveryObligation Met v r
   pub other-met : EveryObligation Met (flip v) (swap r)

@@ -8,7 +8,7 @@ use mathlib.Core.List.{List, [], _∷_, flatten}
 use lib.Dec.{T}
 use lib.ListN.{length, getD}
 use Rattle.lists.specs.Lists.{All}
-use Rattle.bisimulation.specs.Systems.{System, Step, Terminal, View, flip, InitialRelated, LabelsEqual}
+use Rattle.bisimulation.specs.Systems.{System, Step, Terminal, View, flip, StartsRule, LabelsEqual}
 
 -- A path is a list of one or more states of one table, each stepping to the next; it is a path from its first state.
 abbrev pub IsPath : System → List ℕ → Type 0
@@ -57,8 +57,7 @@ PathsMatched v = (s t : ℕ) → T (v .related s t) → (p : List ℕ) → IsPat
 
 pub record PathProperty (v : View) : Type 0 where
   -- The starts are related: each start of either table to some start of the other.
-  pub initial : InitialRelated v
-  pub initial′ : InitialRelated (flip v)
+  pub starts : StartsRule v
   -- Related states have equal marks.
   pub labels : LabelsEqual v
   -- Paths from either state of a related pair are matched.

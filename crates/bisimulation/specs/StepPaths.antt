@@ -6,7 +6,7 @@ use mathlib.Core.List.{List, [], _∷_, _++_, map, tail, flatten}
 use lib.Dec.{T}
 use lib.ListN.{length, getD}
 use Rattle.lists.specs.Lists.{All}
-use Rattle.bisimulation.specs.Systems.{System, Terminal, View, flip, InitialRelated, LabelsEqual}
+use Rattle.bisimulation.specs.Systems.{System, Terminal, View, flip, StartsRule, LabelsEqual}
 use Rattle.bisimulation.specs.PathProperty.{SameBlocks, block}
 
 -- The steps can be taken one after the other from s.
@@ -60,8 +60,7 @@ abbrev pub StepPathsMatched : View → Type 0
 StepPathsMatched v = (s t : ℕ) → T (v .related s t) → (J : List ℕ) → StepPath (v .own) s J → (x : Cut) × Fits v s J t x
 
 pub record StepPathProperty (v : View) : Type 0 where
-  pub initial : InitialRelated v
-  pub initial′ : InitialRelated (flip v)
+  pub starts : StartsRule v
   pub labels : LabelsEqual v
   pub own-paths : StepPathsMatched v
   pub other-paths : StepPathsMatched (flip v)

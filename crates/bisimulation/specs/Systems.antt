@@ -90,6 +90,10 @@ pub record Plain (v : View) : Type 0 where
 abbrev pub InitialRelated : View → Type 0
 InitialRelated v = (s : ℕ) → T (v .own .initial s) → (t : ℕ) × T (v .other .initial t) × T (v .related s t)
 
+-- The starts rule (document 02, Ask 5): each left start is related to some right start, and each right start to some left one.
+abbrev pub StartsRule : View → Type 0
+StartsRule v = InitialRelated v × InitialRelated (flip v)
+
 -- Related states have equal labels.
 abbrev pub LabelsEqual : View → Type 0
 LabelsEqual v = (s t : ℕ) → T (v .related s t) → v .own .label s ≡ v .other .label t

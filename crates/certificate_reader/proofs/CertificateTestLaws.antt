@@ -2,8 +2,8 @@
 -- Assumes nothing.
 use Prim.Native.Nat.{ℕ}
 use mathlib.Core.List.{List}
-use Rattle.words.specs.Bits.{hasBit, hasFrom}
-use Rattle.answers.proofs.DecideLaws.{Decides, decides-as, test-decides, eqb-decides, leb-decides, and-decides, any-decides}
+use Rattle.answers.proofs.DecideLaws.{Decides, decides-as, eqb-decides, and-decides}
+use Rattle.table_reader.proofs.TestLaws.{from-decides}
 use Rattle.certificates.specs.declared.Sizes.{Sizes}
 use Rattle.certificates.specs.Layout.{rowOf}
 use Rattle.certificate_reader.specs.CertificateReading.{certificateSizesFit, wideRow}
@@ -18,8 +18,5 @@ sizes-decides z c =
     (λ p. (((p .0, p .1), p .2), p .3))
 
 pub wide-decides : (rows : List ℕ) (n2 s : ℕ) → Decides (wideRow rows n2 s) (HasWideBit rows n2 s)
-unfolding wideRow hasFrom
-wide-decides rows n2 s =
-    decides-as (any-decides 64 (λ t. and-decides (leb-decides n2 t) (test-decides (hasBit (rowOf rows s) t))))
-    (λ r. (r .0, r .1, r .2 .0, r .2 .1))
-    (λ r. (r .0, r .1, (r .2, r .3)))
+unfolding wideRow
+wide-decides rows n2 s = from-decides (rowOf rows s) n2

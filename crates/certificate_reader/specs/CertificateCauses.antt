@@ -1,12 +1,11 @@
 -- The causes 10 to 15 and 20, each worded as its row of document 01's table, and not through the readers.
-use Prim.Native.Nat.{ℕ, _*_, _≤_, _<_}
+use Prim.Native.Nat.{ℕ, _*_, _<_}
 use mathlib.Core.Path.{_≡_}
 use mathlib.Core.List.{List, [], _∷_}
-use lib.Dec.{T}
 use lib.ListN.{length}
 use Rattle.lists.specs.Lists.{joinBelow}
 use Rattle.lists.specs.Numbers.{byteAt, bigEndian}
-use Rattle.words.specs.Bits.{hasBit}
+use Rattle.words.specs.Bits.{HasFrom}
 use Rattle.answers.specs.Numbers.{sixNumbers}
 use Rattle.answers.specs.Causes.{Cause, _gives_}
 use Rattle.table_reader.specs.TableCauses.{MagicFits}
@@ -17,9 +16,9 @@ use Rattle.certificates.specs.declared.Sizes.{Sizes}
 abbrev pub SizesFit : Sizes → List ℕ → Type 0
 SizesFit z c = (byteAt c 5 ≡ z .n1) × (byteAt c 6 ≡ z .n2) × (bigEndian c 7 2 ≡ z .m1) × (bigEndian c 9 2 ≡ z .m2)
 
--- Row s, a word of 64 bits, has a bit n2 or more.
+-- Row s has a bit n2 or more.
 abbrev pub HasWideBit : List ℕ → ℕ → ℕ → Type 0
-HasWideBit rows n2 s = (t : ℕ) × (t < 64) × (n2 ≤ t) × T (hasBit (rowOf rows s) t)
+HasWideBit rows n2 s = HasFrom (rowOf rows s) n2
 
 -- Row bit n2 or more, a the first such row.
 abbrev pub rowCauses : ℕ → List ℕ → ℕ → ℕ → List Cause

@@ -11,9 +11,11 @@ use Rattle.certificates.specs.CertificateModel.{AreBytes, certifiedView, certif
 use Rattle.certificate_reader.specs.CertificateCauses.{certificateCauses}
 use Rattle.certified_sides.specs.declared.Sides.{Sides}
 use Rattle.certified_sides.specs.Made.{CertifiedSides}
+use Rattle.starts.specs.StartsNamed.{startsNamed}
+use Rattle.starts.specs.StartsCauses.{startsCauses}
 use Rattle.obligations.proofs.JudgingLaws.{none-iff}
 use Rattle.checker.specs.Judge.{judgeAnswer}
-use Rattle.checker.proofs.JudgeCauseLaws.{afterCertificate, afterRight, afterLeft, zero-none, zero-read}
+use Rattle.checker.proofs.JudgeCauseLaws.{afterStarts, afterCertificate, afterRight, afterLeft, zero-none, zero-read}
 use Rattle.checker.proofs.SidesReadLaws.{SidesRead, formed, made-sizes, sides-read}
 
 -- every obligation of both tables is met
@@ -24,7 +26,8 @@ accepted-met left right c zero bytes =
     let a = append-none (tableCauses 0 left) (afterLeft left right c) (zero-none left right c zero) in
     let b = append-none (tableCauses 1 right) (afterRight left right c) (a .1) in
     let d = append-none (certificateCauses 2 (sizesOf left right) c) (afterCertificate left right c) (b .1) in
-    let m = none-iff (certifiedView left right c) (formed left right c (zero-read left right c zero) bytes) (certifiedRanks left right c) .0 (d .1 .1) in
+    let e = append-none (startsCauses (certifiedView left right c) (startsNamed left right)) (afterStarts left right c) (d .1) in
+    let m = none-iff (certifiedView left right c) (formed left right c (zero-read left right c zero) bytes) (certifiedRanks left right c) .0 (e .1) in
     (m .1, m .2)
 
 module _ (left right c : List ℕ) (zero : judgeAnswer left right c .code ≡ 0) {s : Sides} (certified : CertifiedSides left right c s) where

@@ -1,46 +1,36 @@
 -- Where two tables and a certificate are read, the judge's answer is that of the theory's checks of the view and ranks that the bytes give. Assumes nothing.
 use Prim.Native.Nat.{ℕ}
-use mathlib.Core.Path.{_≡_, refl, sym, ap, _∙_}
+use mathlib.Core.Path.{_≡_, sym, ap, ap₂, _∙_}
 use mathlib.Core.List.{List, map}
-use native.Mathlib.Omega.{arith}
 use lib.ListN.{getD}
 use Rattle.lists.specs.Below.{sumBelow}
 use Rattle.words.specs.Bits.{countBits}
 use Rattle.bisimulation.specs.Systems.{View, Ranks}
 use Rattle.tables.specs.declared.Head.{Head}
-use Rattle.tables.specs.Table.{statesOf, startOf}
+use Rattle.tables.specs.Table.{statesOf}
 use Rattle.table_reader.proofs.TableLaws.{table-ok}
 use Rattle.certificates.specs.declared.Sizes.{Sizes}
 use Rattle.certificates.specs.Layout.{sizesOf, rowsPart}
 use Rattle.certificates.specs.CertificateModel.{AreBytes, certifiedView, certifiedRanks}
-use Rattle.answers.specs.Verdicts.{Verdict, goOn, refusedWith, along, answerOf}
+use Rattle.answers.specs.Verdicts.{along, answerOf, asChecked}
 use Rattle.answers.specs.declared.Answer.{Answer}
 use Rattle.relation_words.proofs.RelationLaws.{rows-ones}
 use Rattle.certified_sides.specs.Made.{SidesMade}
-use Rattle.obligations.specs.declared.Checked.{Checked}
-use Rattle.obligations.specs.declared.Checked.the-variants.{Passed, Refused}
+use Rattle.starts.specs.StartsNamed.{startsNamed}
+use Rattle.answers.specs.declared.Checked.{Checked}
+use Rattle.answers.specs.declared.Checked.the-variants.{Passed, Refused}
 use Rattle.obligations.specs.declared.Run.{Run}
-use Rattle.obligations.specs.Judging.{checks, startsVerdict, checkVerdict}
-use Rattle.obligations.specs.OnSides.{startsIn, asChecked, leftRun, rightRun}
+use Rattle.obligations.specs.Judging.{checks, checkVerdict}
+use Rattle.starts.specs.StartsVerdict.{startsVerdict, startsIn}
+use Rattle.obligations.specs.OnSides.{leftRun, rightRun}
+use Rattle.answers.proofs.CheckedLaws.{was-passed, was-refused}
+use Rattle.starts.proofs.OnSidesLaws.{starts-in}
 use Rattle.sweeps.specs.Tallies.{none, tallied, acceptance}
 use Rattle.sweeps.specs.SideVerdicts.{progress, endAnswer, allVerdicts}
 use Rattle.sweeps.proofs.ProgressLaws.{end-answer}
 use Rattle.sweeps.proofs.SideVerdictLaws.{verdicts-are}
 use Rattle.checker.specs.Judge.{AllRead, pairsIn, judged, judgedBytes, readAnswer}
 use Rattle.checker.proofs.SidesReadLaws.{SidesRead, made-sizes, made-words, sides-read}
-
--- ---- the code's enum for the verdict on the starts
-
-not-refused : {answer : Answer} → _≡_ {A = Checked} Passed (Refused answer) → ⊥
-not-refused q = let z : _≡_ {A = ℕ} 0 1 = cc q in omega arith
-
-checked-refused : (v : Verdict (Unit {0})) {answer : Answer} → asChecked v ≡ Refused answer → v ≡ refusedWith answer
-checked-refused (goOn x) e = absurd (not-refused e)
-checked-refused (refusedWith answer) e = ap refusedWith (cc e)
-
-checked-passed : (v : Verdict (Unit {0})) → asChecked v ≡ Passed → v ≡ goOn tt
-checked-passed (goOn x) e = refl
-checked-passed (refusedWith answer) e = absurd (not-refused (sym e))
 
 -- ---- two tables and a certificate that are read
 
@@ -62,8 +52,8 @@ module _ (left right c : List ℕ) {h k : Head} (read : AllRead left right c h k
   sides : SidesRead left right c ours theirs
   sides = sides-read left right c read made bytes
 
-  starts-are : startsIn ours theirs ≡ startsVerdict view (startOf left) (startOf right)
-  starts-are = rw (sides .here, sides .start-is, sides .start-is′)
+  starts-are : startsIn ours theirs ≡ startsVerdict view (startsNamed left right)
+  starts-are = starts-in ours theirs (sides .holding .turned) ∙ ap₂ startsVerdict (sides .here) (sides .named)
 
   -- the answer after all checks
   end-is : (pairs : ℕ) → endAnswer pairs (progress (allVerdicts ours theirs c (leftRun (sizesOf left right)) (rightRun (sizesOf left right))) none)
@@ -84,8 +74,8 @@ module _ (left right c : List ℕ) {h k : Head} (read : AllRead left right c h k
   unfolding judgedBytes judged
   answers =
       record {
-        refused = λ q. sym (rw (sym starts-are ∙ checked-refused _ (sym es ∙ q)));
+        refused = λ q. sym (rw (sym starts-are ∙ was-refused _ _ (sym es ∙ q)));
         passed = λ q e e′ ep.
-            rw (sym starts-are ∙ checked-passed _ (sym es ∙ q), pairs-are ep, e, e′, made-sizes left right c read made)
+            rw (sym starts-are ∙ was-passed _ (sym es ∙ q), pairs-are ep, e, e′, made-sizes left right c read made)
             (end-is (pairsIn (rowsPart c (sizesOf left right)) (statesOf left)));
       }

@@ -5,17 +5,18 @@ use mathlib.Core.Path.{_≡_, refl, sym, ap, ap₂, _∙_, subst}
 use mathlib.Core.List.{List}
 use Rattle.bisimulation.specs.Systems.{WellFormed, flip}
 use Rattle.tables.specs.declared.Head.{Head}
-use Rattle.tables.specs.Table.{statesOf, startOf, labelsPart, stepsPart}
+use Rattle.tables.specs.Table.{statesOf, labelsPart, stepsPart}
 use Rattle.certificates.specs.declared.Sizes.{Sizes}
 use Rattle.certificates.specs.Layout.{sizesOf, rowsPart}
 use Rattle.certificates.specs.CertificateModel.{AreBytes, ranksOf, certifiedView, certifiedRanks}
 use Rattle.certificates.proofs.ModelLaws.{rows-bytes}
 use Rattle.certificate_reader.proofs.CertificateLaws.{certificate-ok, sizes-are, view-formed}
 use Rattle.relation_words.specs.Relation.{rowWords, columnWords}
-use Rattle.sides.specs.Side.{startIn}
+use Rattle.starts.specs.StartsNamed.{startsNamed, startsNamedIn}
 use Rattle.sides.specs.Views.{viewIn}
 use Rattle.sides.specs.Built.{SideOf}
-use Rattle.sides.proofs.ViewLaws.{view-is, view-flipped, start-is, side-linked}
+use Rattle.sides.proofs.ViewLaws.{view-is, view-flipped, side-linked}
+use Rattle.starts.proofs.OnSidesLaws.{starts-named}
 use Rattle.certified_sides.specs.Made.{SidesMade}
 use Rattle.obligations.specs.OnSides.{leftRun, rightRun}
 use Rattle.obligations.proofs.OnSidesLaws.{Holding}
@@ -24,8 +25,7 @@ use Rattle.checker.specs.Judge.{AllRead}
 -- They hold what the bytes give.
 pub record SidesRead (left right c ours theirs : List ℕ) : Type 0 where
   pub here : viewIn ours theirs ≡ certifiedView left right c
-  pub start-is : startIn ours ≡ startOf left
-  pub start-is′ : startIn theirs ≡ startOf right
+  pub named : startsNamedIn ours theirs ≡ startsNamed left right
   pub holding : Holding ours theirs c (leftRun (sizesOf left right)) (rightRun (sizesOf left right)) (certifiedRanks left right c)
 
 module _ (left right c : List ℕ) {h k : Head} (read : AllRead left right c h k) where
@@ -59,8 +59,7 @@ module _ (left right c : List ℕ) {h k : Head} (read : AllRead left right c h k
         let here = view-is left right rows gl gr b left-side right-side in
         record {
           here = here;
-          start-is = start-is left gl left-side;
-          start-is′ = start-is right gr right-side;
+          named = starts-named left right gl gr left-side right-side;
           holding = record {
             linked = side-linked left gl left-side;
             linked′ = side-linked right gr right-side;

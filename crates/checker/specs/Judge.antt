@@ -6,7 +6,7 @@ use mathlib.Core.List.{List}
 use Rattle.lists.specs.Below.{sumBelow}
 use Rattle.words.specs.Bits.{countBits}
 use Rattle.bisimulation.specs.Systems.{View, Ranks}
-use Rattle.tables.specs.Table.{statesOf, startOf}
+use Rattle.tables.specs.Table.{statesOf}
 use Rattle.table_reader.specs.TableReading.{readTable}
 use Rattle.table_reader.specs.TableVerdicts.{tableVerdict}
 use Rattle.answers.specs.Verdicts.{Verdict, _andThen_, along, answerOf}
@@ -19,7 +19,9 @@ use Rattle.certificate_reader.specs.CertificateVerdicts.{certificateVerdict}
 use Rattle.certificates.specs.CertificateModel.{certifiedView, certifiedRanks}
 use Rattle.certificates.specs.declared.Sizes.{Sizes}
 use Rattle.certificate_reader.specs.declared.CertificateRead.the-variants as certificate
-use Rattle.obligations.specs.Judging.{checks, startsVerdict, checkVerdict}
+use Rattle.starts.specs.StartsNamed.{StartsNamed, startsNamed}
+use Rattle.obligations.specs.Judging.{checks, checkVerdict}
+use Rattle.starts.specs.StartsVerdict.{startsVerdict}
 use Rattle.sweeps.specs.declared.Tally.{Tally}
 use Rattle.sweeps.specs.Tallies.{none, tallied, acceptance}
 
@@ -34,13 +36,13 @@ pub record AllRead (left right c : List ℕ) (head head′ : Head) : Type 0 wher
 unfoldable pub pairsIn : List ℕ → ℕ → ℕ
 pairsIn rows n1 = sumBelow n1 (λ s. countBits (rowOf rows s))
 
--- 16 where the starts are unrelated, then the checks in judging order: the obligations counted by clause, or the first refusal.
-unfoldable pub judged : View → Ranks → ℕ → ℕ → Verdict Tally
-judged v r start start′ = startsVerdict v start start′ andThen λ x. along (λ c. tallied (checkVerdict v r c)) (checks v) none
+-- 16 where the starts rule fails, then the checks in judging order: the obligations counted by clause, or the first refusal.
+unfoldable pub judged : View → Ranks → StartsNamed → Verdict Tally
+judged v r named = startsVerdict v named andThen λ x. along (λ c. tallied (checkVerdict v r c)) (checks v) none
 
 -- The same for the view and the ranks that the bytes give.
-unfoldable pub judgedBytes : List ℕ → List ℕ → List ℕ → ℕ → ℕ → Verdict Tally
-judgedBytes left right c = judged (certifiedView left right c) (certifiedRanks left right c)
+unfoldable pub judgedBytes : List ℕ → List ℕ → List ℕ → Verdict Tally
+judgedBytes left right c = judged (certifiedView left right c) (certifiedRanks left right c) (startsNamed left right)
 
 -- The verdict on any three byte strings.
 unfoldable pub judgeVerdict : List ℕ → List ℕ → List ℕ → Verdict Tally
@@ -48,7 +50,7 @@ judgeVerdict left right c =
     tableVerdict 0 (readTable left) andThen λ head.
     tableVerdict 1 (readTable right) andThen λ head′.
     certificateVerdict 2 (readCertificate (sizesOf left right) c) andThen λ sizes.
-    judgedBytes left right c (startOf left) (startOf right)
+    judgedBytes left right c
 
 -- The answer after a verdict: the refusal's, or that of an acceptance, with the related pairs of the certificate's rows and the obligations counted.
 abbrev pub answerAfter : List ℕ → List ℕ → List ℕ → Verdict Tally → Answer
@@ -56,7 +58,7 @@ answerAfter left right c = answerOf (acceptance (pairsIn (rowsPart c (sizesOf le
 
 -- The answer where all three are read.
 abbrev pub readAnswer : List ℕ → List ℕ → List ℕ → Answer
-readAnswer left right c = answerAfter left right c (judgedBytes left right c (startOf left) (startOf right))
+readAnswer left right c = answerAfter left right c (judgedBytes left right c)
 
 unfoldable pub judgeAnswer : List ℕ → List ℕ → List ℕ → Answer
 judgeAnswer left right c = answerAfter left right c (judgeVerdict left right c)

@@ -1,15 +1,15 @@
 // The judge: six numbers for any three byte strings. What it looks at stands in two sides, which are made once a call.
 use answers::Answer;
+use answers::Checked;
 use certificate_reader::CertificateRead;
 use certificate_reader::read_certificate;
 use certificates::Sizes;
 use certificates::rows;
-use obligations::Checked;
 use obligations::Run;
-use obligations::check_starts;
 use relation_words::column_words;
 use relation_words::row_words;
 use sides::side_of;
+use starts::check_starts;
 use sweeps::Progress;
 use sweeps::check_all;
 use table_reader::TableRead;

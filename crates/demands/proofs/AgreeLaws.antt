@@ -41,8 +41,7 @@ pub accepts-agree : (v : View) → WellFormed v → (q r : Ranks) → AgreeInsid
 accepts-agree v w q r a b h =
     let c = accepts-iff v w q .0 h in
     accepts-iff v w r .1 (record {
-      initial = c .initial;
-      initial′ = c .initial′;
+      starts = c .starts;
       labels = c .labels;
       own-met = side-agree v w q r a (c .own-met);
       other-met = side-agree (flip v) (flip-formed v w) (swap q) (swap r) b (c .other-met);

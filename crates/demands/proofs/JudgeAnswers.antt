@@ -13,7 +13,7 @@ use Rattle.answers.specs.Verdicts.{goOn}
 use Rattle.answers.specs.declared.Answer.{Answer}
 use Rattle.answers.proofs.CauseLaws.{refused-iff, zero-none, none-zero}
 use Rattle.answers.proofs.VerdictLaws.{then-on, decided-answer}
-use Rattle.tables.specs.Table.{statesOf, stepsOf, startOf}
+use Rattle.tables.specs.Table.{statesOf, stepsOf}
 use Rattle.tables.specs.Model.{systemOf}
 use Rattle.table_reader.specs.TableReading.{readTable}
 use Rattle.table_reader.specs.TableVerdicts.{tableVerdict}
@@ -24,7 +24,9 @@ use Rattle.certificate_reader.specs.CertificateVerdicts.{certificateVerdict}
 use Rattle.outcomes.specs.declared.Clause.{Clause}
 use Rattle.outcomes.specs.declared.Clause.the-variants.{Step, Stutter, Match}
 use Rattle.obligations.specs.CheckCauses.{CheckMetBy}
-use Rattle.obligations.specs.Judging.{checks, startsVerdict, obligationsOf}
+use Rattle.starts.specs.StartsNamed.{startsNamed}
+use Rattle.obligations.specs.Judging.{checks, obligationsOf}
+use Rattle.starts.specs.StartsVerdict.{startsVerdict}
 use Rattle.obligations.proofs.CountLaws.{count-checks, obligations-most}
 use Rattle.sweeps.specs.Tallies.{none, countOf, acceptance}
 use Rattle.checker.specs.Judge.{pairsIn, judged, judgedBytes, judgeVerdict, judgeAnswer}
@@ -58,7 +60,7 @@ module _ (left right c : List ℕ) where
       let a = then-on (tableVerdict 0 (readTable left)) e in
       let b = then-on (tableVerdict 1 (readTable right)) (a .2) in
       let d = then-on (certificateVerdict 2 (readCertificate (sizesOf left right) c)) (b .2) in
-      let f = then-on (startsVerdict v (startOf left) (startOf right)) (d .2) in
+      let f = then-on (startsVerdict v (startsNamed left right)) (d .2) in
       let count : (clause : Clause) → Counts (CheckMetBy v r clause) (checks v) (countOf clause y) =
       λ clause.
       let k = along-counts v r clause (checks v) none y (f .2) in

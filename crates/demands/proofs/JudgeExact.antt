@@ -6,18 +6,15 @@ use mathlib.Core.Path.{_≡_}
 use mathlib.Core.Logic.{_↔_}
 use mathlib.Core.List.{List}
 use lib.Dec.{T}
-use Rattle.bisimulation.specs.Systems.{WellFormed, NoTwice, flip, InitialRelated}
+use Rattle.bisimulation.specs.Systems.{WellFormed, NoTwice, StartsRule}
 use Rattle.bisimulation.specs.Clauses.{Meets, Certified}
 use Rattle.bisimulation.specs.Judge.{accepts}
 use Rattle.bisimulation.specs.Namjoshi.{BisimulationWithoutConjunct, InitialStatesRelated}
 use Rattle.bisimulation.specs.Triples.{tripleRank}
 use Rattle.bisimulation.proofs.ClauseLaws.{accepts-iff}
-use Rattle.bisimulation.proofs.Equivalences.{one-initial}
 use Rattle.bisimulation.proofs.NamjoshiTheorems.{bisimulation-accepted, accepted-bisimulation, certified-iff-triples}
 use Rattle.answers.specs.Causes.{NoCause}
 use Rattle.answers.proofs.CauseLaws.{none-append, append-none}
-use Rattle.answers.proofs.DecideLaws.{decides-stable, test-decides}
-use Rattle.tables.specs.Table.{startOf}
 use Rattle.table_reader.specs.TableCauses.{tableCauses}
 use Rattle.table_reader.proofs.TableCauseLaws.{formed-good, good-formed, good-none, none-good}
 use Rattle.table_reader.proofs.TableLaws.{table-formed}
@@ -26,12 +23,16 @@ use Rattle.certificates.specs.CertificateModel.{AreBytes, viewOf, certifiedView
 use Rattle.certificates.proofs.ModelLaws.{view-plain}
 use Rattle.certificate_reader.specs.CertificateCauses.{certificateCauses}
 use Rattle.certificate_reader.proofs.CertificateCauseLaws.{certificate-none-good}
+use Rattle.starts.specs.StartsNamed.{startsNamed}
+use Rattle.starts.specs.StartsCauses.{startsCauses}
 use Rattle.obligations.proofs.JudgingLaws.{none-iff}
+use Rattle.starts.proofs.StartsLaws.{starts-iff}
 use Rattle.checker.specs.Judge.{judgeAnswer}
 use Rattle.checker.specs.JudgeCauses.{judgeCauses}
 use Rattle.checker.proofs.SidesReadLaws.{formed}
-use Rattle.checker.proofs.JudgeCauseLaws.{afterCertificate, afterRight, afterLeft}
+use Rattle.checker.proofs.JudgeCauseLaws.{afterStarts, afterCertificate, afterRight, afterLeft}
 use Rattle.demands.specs.Demand2.{AllWellFormed, JudgeExact}
+use Rattle.demands.proofs.OneStartLaws.{names-starts}
 use Rattle.demands.proofs.JudgeAnswers.{zero-accepted, accepted-zero}
 
 module _ (left right c : List ℕ) (bytes : AreBytes c) where
@@ -49,13 +50,12 @@ module _ (left right c : List ℕ) (bytes : AreBytes c) where
         })
         bytes
 
-    -- one start each: they are related
-    starts-iff : (InitialRelated (view left right c) × InitialRelated (flip (view left right c)))
-        ↔ T (view left right c .related (startOf left) (startOf right))
-    unfolding viewOf
-    starts-iff =
-        one-initial (view left right c) (startOf left) (startOf right)
-        (table-formed left (formed-good left (w .left-formed)) .one-initial) (table-formed right (formed-good right (w .right-formed)) .one-initial)
+    -- no cause 16 applies exactly where the starts rule holds
+    starts-are : NoCause (startsCauses (view left right c) (startsNamed left right))
+        ↔ StartsRule (view left right c)
+    starts-are =
+        starts-iff (view left right c) (formed-view .here .initial<) (formed-view .there .initial<) (startsNamed left right)
+        (names-starts left right (rowsPart c (sizesOf left right)) (formed-good left (w .left-formed)) (formed-good right (w .right-formed)))
 
     no-twice : NoTwice (view left right c .own) × NoTwice (view left right c .other)
     unfolding viewOf
@@ -80,18 +80,18 @@ module _ (left right c : List ℕ) (bytes : AreBytes c) where
         right-formed = good-formed right (none-good 1 right (r .0));
         certificate-formed = d .0;
       } in
-      let i = starts-iff w .1 (decides-stable (test-decides (view left right c .related (startOf left) (startOf right))) (d .1 .0)) in
-      let m = none-iff (view left right c) (formed-view w) (ranks left right c) .0 (d .1 .1) in
-      (w, record { initial = i .0; initial′ = i .1; labels = m .0; own-met = m .1; other-met = m .2 })
+      let e = append-none (startsCauses (view left right c) (startsNamed left right)) (afterStarts left right c) (d .1) in
+      let i = starts-are w .0 (e .0) in
+      let m = none-iff (view left right c) (formed-view w) (ranks left right c) .0 (e .1) in
+      (w, record { starts = i; labels = m .0; own-met = m .1; other-met = m .2 })
 
   certified-none : AllWellFormed left right c → Certified Meets (view left right c) (ranks left right c) → NoCause (judgeCauses left right c)
   certified-none w m =
       none-append (tableCauses 0 left) (afterLeft left right c) (w .left-formed)
       (none-append (tableCauses 1 right) (afterRight left right c) (good-none 1 right (formed-good right (w .right-formed)) .1)
-      (none-append (certificateCauses 2 (sizesOf left right) c) (afterCertificate left right c) (w .certificate-formed) (
-        λ n. n (starts-iff w .0 (m .initial, m .initial′)),
-        none-iff (view left right c) (formed-view w) (ranks left right c) .1 (m .labels, m .own-met, m .other-met),
-      )))
+      (none-append (certificateCauses 2 (sizesOf left right) c) (afterCertificate left right c) (w .certificate-formed)
+      (none-append (startsCauses (view left right c) (startsNamed left right)) (afterStarts left right c) (starts-are w .1 (m .starts))
+      (none-iff (view left right c) (formed-view w) (ranks left right c) .1 (m .labels, m .own-met, m .other-met)))))
 
   -- the judge accepts where the theory's does, and only there
   pub accepts-code : AllWellFormed left right c → T (accepts (view left right c) (ranks left right c)) → judgeAnswer left right c .code ≡ 0

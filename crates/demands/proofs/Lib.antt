@@ -1,5 +1,6 @@
 -- The theorems, and the laws that they stand on.
 pub mod JudgeAnswers
+pub mod OneStartLaws
 pub mod JudgeExact
 pub mod AgreeLaws
 pub mod RelationsExact

@@ -18,15 +18,14 @@ use Rattle.bisimulation.specs.PathProperty.{PathProperty}
 use Rattle.bisimulation.proofs.ClauseLaws.{flip-formed}
 use Rattle.bisimulation.proofs.Equivalences.{succeeds-iff-property, accepted-property}
 use Rattle.bisimulation.proofs.Made.{made-accepted, made-bytes}
-use Rattle.tables.specs.Table.{startOf}
 use Rattle.tables.specs.Model.{systemOf}
 use Rattle.answers.specs.Verdicts.{passed}
 use Rattle.answers.specs.declared.Answer.{Answer}
 use Rattle.answers.proofs.VerdictLaws.{none-on}
-use Rattle.table_reader.proofs.TableLaws.{table-formed}
 use Rattle.certificates.specs.Layout.{sizesOf, certificateLength}
 use Rattle.certificates.specs.CertificateModel.{viewOf, ranksOf}
 use Rattle.certificates.proofs.ModelLaws.{view-plain}
+use Rattle.starts.specs.StartsNamed.{startsNamed}
 use Rattle.files.specs.File.{certificateHeader, certificateFile}
 use Rattle.files.proofs.FileLaws.{file-length, file-rows, file-ranks}
 use Rattle.examination.proofs.ExamineLaws.{examined-succeeds}
@@ -37,6 +36,7 @@ use Rattle.ranking.proofs.MakerCauseLaws.{maker-decided}
 use Rattle.checker.specs.Judge.{judgeAnswer}
 use Rattle.demands.specs.Demand2.{WellFormedInputs}
 use Rattle.demands.specs.Demand3.{DefinedFile, MakerExact}
+use Rattle.demands.proofs.OneStartLaws.{names-starts}
 use Rattle.demands.proofs.MakerAnswers.{untouched, zero-made}
 use Rattle.demands.proofs.RankWords.{match-ranks, stutter-ranks, success-endless, match-agree, stutter-agree}
 use Rattle.demands.proofs.RelationsExact.{given-formed, given-read, given-length, given-few, accepted-file, file-accepted}
@@ -46,11 +46,11 @@ module _ (left right relation output : List ℕ) (given : WellFormedInputs left 
   -- ---- all is read, so the answer is that of the examination
 
   examined-iff : (madeVerdict left right relation ≡ passed) ↔ T (succeeds (viewOf left right relation))
-  unfolding madeVerdict viewOf
+  unfolding madeVerdict
   examined-iff =
       let r = given-read left right relation given in
-      examined-succeeds (viewOf left right relation) (given-formed left right relation given) (startOf left) (startOf right)
-      (table-formed left (r .left-good) .one-initial) (table-formed right (r .right-good) .one-initial)
+      examined-succeeds (viewOf left right relation) (given-formed left right relation given) (startsNamed left right)
+      (names-starts left right relation (r .left-good) (r .right-good))
 
   property-iff : T (succeeds (viewOf left right relation)) ↔ PathProperty (viewOf left right relation)
   property-iff = succeeds-iff-property (viewOf left right relation) (given-formed left right relation given) (view-plain left right relation)

@@ -4,7 +4,7 @@ use mathlib.Core.List.{[], _∷_, _++_, flatMap}
 use native.Mathlib.Decide.{decLt}
 use native.Mathlib.Omega.{arith}
 use lib.Dec.{ltb, ltb→lt}
-use lib.ListN.{length}
+use lib.ListN.{length, take}
 use Rattle.lists.specs.Below.{anyBelow, allBelow, firstBelow, sumBelow, countBelow, mostBelow}
 use Rattle.lists.specs.Numbers.{byteAt, bigEndian, bigBytes}
 use Rattle.lists.specs.Lists.{joinBelow, tabulate, grid, putFront}
@@ -19,23 +19,27 @@ use Rattle.bisimulation.specs.Triples.{ahead, stepOf}
 use Rattle.bisimulation.specs.Systems.{stepsFrom}
 use Rattle.bisimulation.specs.Maker.{matchesWithin, matched, distance, mayChain, chainAlong, stutterRank, matchRank}
 use Rattle.tables.specs.Table.{
+  layoutOf,
+  formatOf,
   magicFits,
   versionOf,
+  formatIn,
   statesOf,
   startOf,
-  stepsOf,
+  startsOf,
+  startWord,
   initialOf,
-  tableLength,
-  labelsAt,
+  stepsOf,
   stepsAt,
-  stepsEnd,
+  tableLength,
   labelsPart,
   stepsPart,
   labelOf,
   fromOf,
   toOf,
 }
-use Rattle.table_reader.specs.TableReading.{versionFits, statesFit, endsOutside, sameStep, doubled, readSizes, readHeader, readSteps, readTable}
+use Rattle.table_reader.specs.TableReading.{versionFits, statesFit, wrongStarts, endsOutside, sameStep, doubled, greater, notGreater}
+use Rattle.table_reader.specs.TableReading.{readLength, readSizes, readHeader, readSteps, readTable}
 use Rattle.tables.specs.Model.{systemOf}
 use Rattle.certificates.specs.Layout.{sizesOf, certificateLength, alAt, arAt, clAt, crAt, rowsPart, rowOf}
 use Rattle.certificate_reader.specs.CertificateReading.{certificateSizesFit, wideRow, readRows, readCertificate, readRelation}
@@ -44,7 +48,9 @@ use Rattle.certificates.specs.CertificateModel.{AreBytes, relatedIn, viewOf, ra
 use Rattle.outcomes.specs.Obligation.{outcomeAfter2a, isApart, obligationAt}
 use Rattle.answers.specs.Verdicts.{along, firstOf}
 use Rattle.answers.specs.declared.Answer.{Answer}
-use Rattle.obligations.specs.Judging.{pairChecks, checksBy, checks, startsVerdict, checkVerdict}
+use Rattle.starts.specs.StartsNamed.{startsNamed}
+use Rattle.obligations.specs.Judging.{pairChecks, checksBy, checks, checkVerdict}
+use Rattle.starts.specs.StartsVerdict.{unpaired, unpairedVerdict, startsVerdict}
 use Rattle.files.specs.File.{certificateHeader, certificateFile}
 use Rattle.examination.specs.Examine.{examined, makerVerdict, verdictBy, mayKeep, endlessAt, firstChain, endless}
 use Rattle.inputs.specs.Inputs.{readVerdict}
@@ -63,7 +69,7 @@ use Rattle.path_matcher.specs.Following.{
   followStates,
   followBlocks,
 }
-use Rattle.demands.specs.Examples.{line, six, run, P, Q, rowsPQ, K, certificate, low, zeros, still, looping, stillCertificate}
+use Rattle.demands.specs.Examples.{line, six, run, P, Q, startingAt, rowsPQ, K, certificate, low, zeros, still, looping, stillCertificate}
 use Rattle.demands.proofs.MakerAnswers.{made-given}
 use Rattle.demands.proofs.MakerExact.{maker-exact}
 
@@ -78,21 +84,44 @@ pub starred : (judgeAnswer P Q K ≡ six 0 0 3 4 1 1)
     × (makeAnswer still looping (low 1) (zeros 24) ≡ six 23 2 1 0 0 0)
 unfolding
     anyBelow allBelow firstBelow sumBelow countBelow bigEndian hasBit addBit hasFrom countBits firstBit is2a is2b is2c ahead
-    magicFits versionOf versionFits statesOf statesFit startOf stepsOf initialOf tableLength labelsAt stepsAt stepsEnd
-    labelsPart stepsPart labelOf fromOf toOf endsOutside sameStep doubled readSizes readHeader readSteps readTable
+    layoutOf formatOf magicFits versionOf formatIn versionFits statesOf statesFit startWord startOf stepsOf initialOf tableLength stepsAt
+    labelsPart stepsPart labelOf fromOf toOf endsOutside sameStep doubled readLength readSizes readHeader readSteps readTable
     systemOf sizesOf certificateLength alAt arAt clAt crAt rowsPart rowOf certificateSizesFit wideRow
     readRows readCertificate certificates.readHeader relatedIn viewOf ranksOf smallestEntered outcomeAfter2a isApart obligationAt
-    joinBelow stepsFrom pairChecks checksBy checks along startsVerdict checkVerdict pairsIn judged judgedBytes judgeVerdict judgeAnswer
+    joinBelow stepsFrom pairChecks checksBy checks along startsNamed startsVerdict checkVerdict pairsIn judged judgedBytes judgeVerdict judgeAnswer
     readRelation roomVerdict examined firstOf makerVerdict verdictBy mayKeep endlessAt firstChain endless
     matchesWithin matched distance mayChain chainAlong stutterRank matchRank mostBelow
     readVerdict madeVerdict makeVerdict makeAnswer makeOutput fileFor certificateHeader certificateFile bigBytes tabulate grid putFront
 starred = (refl, refl, refl, refl, refl, refl, refl, refl, refl)
 
+-- Q that starts at 0 or at 1 is as good as Q: both are related to P's start. Where it starts at 0 or at 2, the right start 2 is unpaired; with row 0 of 2
+-- the right start 0 is; and with row 0 of 0 the left start is first. A start word of 0 or with the bit 3 gets 28, and a header of 15 bytes 1.
+pub two-starts : (judgeAnswer P (startingAt 3) K ≡ six 0 0 3 4 1 1)
+    × (makeAnswer P (startingAt 3) rowsPQ (zeros 51) ≡ six 0 0 51 0 0 0)
+    × (judgeAnswer P (startingAt 5) K ≡ six 16 2 1 2 0 0)
+    × (makeAnswer P (startingAt 5) rowsPQ (zeros 51) ≡ six 16 2 1 2 0 0)
+    × (judgeAnswer P (startingAt 3) (certificate 2 4 1 1) ≡ six 16 2 1 0 0 0)
+    × (judgeAnswer P (startingAt 3) (certificate 0 4 1 1) ≡ six 16 2 0 0 0 0)
+    × (judgeAnswer P (startingAt 0) K ≡ six 28 1 0 0 0 0)
+    × (judgeAnswer P (startingAt 8) K ≡ six 28 1 0 0 0 0)
+    × (judgeAnswer P (take 15 (startingAt 3)) K ≡ six 1 1 0 0 0 0)
+unfolding
+    anyBelow allBelow firstBelow sumBelow countBelow bigEndian hasBit addBit hasFrom countBits firstBit is2a is2b is2c ahead
+    layoutOf formatOf magicFits versionOf formatIn versionFits statesOf statesFit startWord startOf startsOf stepsOf initialOf tableLength stepsAt wrongStarts
+    labelsPart stepsPart labelOf fromOf toOf endsOutside sameStep doubled greater notGreater readLength readSizes readHeader readSteps readTable
+    systemOf sizesOf certificateLength alAt arAt clAt crAt rowsPart rowOf certificateSizesFit wideRow
+    readRows readCertificate certificates.readHeader relatedIn viewOf ranksOf smallestEntered outcomeAfter2a isApart obligationAt
+    joinBelow stepsFrom pairChecks checksBy checks along startsNamed unpaired unpairedVerdict startsVerdict checkVerdict
+    pairsIn judged judgedBytes judgeVerdict judgeAnswer readRelation roomVerdict examined firstOf makerVerdict verdictBy mayKeep endlessAt firstChain endless
+    matchesWithin matched distance mayChain chainAlong stutterRank matchRank mostBelow
+    readVerdict madeVerdict makeVerdict makeAnswer makeOutput fileFor certificateHeader certificateFile bigBytes tabulate grid putFront
+two-starts = (refl, refl, refl, refl, refl, refl, refl, refl, refl)
+
 -- document 02's six lines for P, Q and K
 pub listed : listingOf P Q K
     ≡ line 0 0 0 0 3 1 ∷ line 1 0 0 0 2 0 ∷ line 0 0 1 0 1 2 ∷ line 1 0 1 1 1 1 ∷ line 0 1 2 1 1 0 ∷ line 1 1 2 2 1 0 ∷ []
 unfolding
-    anyBelow firstBelow bigEndian hasBit is2a is2b is2c ahead statesOf startOf stepsOf initialOf labelsAt stepsAt stepsEnd
+    anyBelow firstBelow bigEndian hasBit is2a is2b is2c ahead layoutOf formatOf versionOf formatIn statesOf stepsOf tableLength stepsAt
     labelsPart stepsPart labelOf fromOf toOf systemOf sizesOf alAt arAt clAt crAt rowsPart rowOf relatedIn viewOf ranksOf
     smallestEntered outcomeAfter2a isApart obligationAt joinBelow stepsFrom pairChecks checksBy checks mostBelow flatMap checkLines listing
 listed = refl
@@ -111,11 +140,11 @@ pub followed-PQK : (followAnswer P Q K 0 0 run (zeros 12) (zeros 6) ≡ six 0 0 
     × (followStates P Q K 1 0 (0 ∷ 1 ∷ 2 ∷ 0 ∷ []) (zeros 9) (zeros 8) ≡ 0 ∷ 0 ∷ 0 ∷ 1 ∷ 0 ∷ 1 ∷ 0 ∷ 0 ∷ 2 ∷ [])
     × (followBlocks P Q K 1 0 (0 ∷ 1 ∷ 2 ∷ 0 ∷ []) (zeros 9) (zeros 8) ≡ 0 ∷ 0 ∷ 0 ∷ 0 ∷ 0 ∷ 1 ∷ 0 ∷ 2 ∷ [])
 unfolding
-    anyBelow firstBelow bigEndian hasBit hasFrom is2a is2b is2c magicFits versionOf versionFits statesOf statesFit startOf stepsOf tableLength
-    labelsAt stepsAt stepsEnd labelsPart stepsPart labelOf fromOf toOf endsOutside sameStep doubled readSizes readHeader readSteps readTable systemOf
-    sizesOf certificateLength alAt arAt clAt rowsPart rowOf certificateSizesFit wideRow readRows readCertificate certificates.readHeader relatedIn
-    viewOf ranksOf smallestEntered outcomeAfter2a obligationAt joinBelow stepsFrom pairChecks checksBy checks along startsVerdict checkVerdict judged
-    judgedBytes judgeVerdict mostBelow smallestStep moves matchSteps matchPath stepOf stepsAlong numberedFrom followed givenEntries matchingEntries
+    anyBelow firstBelow bigEndian hasBit hasFrom is2a is2b is2c layoutOf formatOf magicFits versionOf formatIn versionFits statesOf statesFit startWord startOf
+    stepsOf tableLength stepsAt labelsPart stepsPart labelOf fromOf toOf endsOutside sameStep doubled readLength readSizes readHeader readSteps readTable
+    systemOf sizesOf certificateLength alAt arAt clAt rowsPart rowOf certificateSizesFit wideRow readRows readCertificate certificates.readHeader relatedIn
+    viewOf ranksOf smallestEntered outcomeAfter2a obligationAt joinBelow stepsFrom pairChecks checksBy checks along startsNamed startsVerdict checkVerdict
+    judged judgedBytes judgeVerdict mostBelow smallestStep moves matchSteps matchPath stepOf stepsAlong numberedFrom followed givenEntries matchingEntries
     flatMap bigBytes putFront hasStep wrongPath wrongStart noRoom matchVerdict followVerdict followAnswer followStates followBlocks
 followed-PQK = (refl, refl, refl, refl, refl, refl, refl, refl, refl, refl, refl)
 
@@ -127,11 +156,11 @@ pub made-K : (length K ≡ 51)
     × (makeAnswer P Q rowsPQ (zeros 50) ≡ six 21 3 51 0 0 0)
 unfolding
     anyBelow allBelow firstBelow sumBelow countBelow bigEndian hasBit addBit hasFrom countBits firstBit is2a is2b is2c ahead
-    magicFits versionOf versionFits statesOf statesFit startOf stepsOf initialOf tableLength labelsAt stepsAt stepsEnd
-    labelsPart stepsPart labelOf fromOf toOf endsOutside sameStep doubled readSizes readHeader readSteps readTable
+    layoutOf formatOf magicFits versionOf formatIn versionFits statesOf statesFit startWord startOf stepsOf initialOf tableLength stepsAt
+    labelsPart stepsPart labelOf fromOf toOf endsOutside sameStep doubled readLength readSizes readHeader readSteps readTable
     systemOf sizesOf certificateLength alAt arAt clAt crAt rowsPart rowOf certificateSizesFit wideRow
     readRows readCertificate certificates.readHeader relatedIn viewOf ranksOf smallestEntered outcomeAfter2a isApart obligationAt
-    joinBelow stepsFrom pairChecks checksBy checks along startsVerdict checkVerdict pairsIn judged judgedBytes judgeVerdict judgeAnswer
+    joinBelow stepsFrom pairChecks checksBy checks along startsNamed startsVerdict checkVerdict pairsIn judged judgedBytes judgeVerdict judgeAnswer
     readRelation roomVerdict examined firstOf makerVerdict verdictBy mayKeep endlessAt firstChain endless
     matchesWithin matched distance mayChain chainAlong stutterRank matchRank mostBelow
     readVerdict madeVerdict makeVerdict makeAnswer makeOutput fileFor certificateHeader certificateFile bigBytes tabulate grid putFront

@@ -15,7 +15,7 @@ use Rattle.lists.proofs.JoinLaws.{all-imply}
 use Rattle.lists.proofs.NumberLaws.{big-cong}
 use Rattle.bisimulation.specs.Systems.{View, Ranks, flip, swap}
 use Rattle.bisimulation.specs.Judge.{is2b, is2c, meets2c}
-use Rattle.tables.specs.Table.{statesOf, startOf, magicFits}
+use Rattle.tables.specs.Table.{statesOf, magicFits}
 use Rattle.table_reader.specs.TableReading.{readTable}
 use Rattle.answers.specs.Verdicts.{Verdict, _andThen_, answerOf}
 use Rattle.answers.proofs.VerdictLaws.{then-cong, along-cong}
@@ -38,7 +38,9 @@ use Rattle.table_reader.specs.TableVerdicts.{tableVerdict}
 use Rattle.certificate_reader.specs.CertificateVerdicts.{certificateVerdict}
 use Rattle.demands.specs.Demand2.{SameWhereRelated}
 use Rattle.outcomes.specs.Obligation.{obligationAt}
-use Rattle.obligations.specs.Judging.{Check, checks, startsVerdict, Finding, stepVerdict, checkVerdict}
+use Rattle.starts.specs.StartsNamed.{StartsNamed, startsNamed}
+use Rattle.obligations.specs.Judging.{Check, checks, Finding, stepVerdict, checkVerdict}
+use Rattle.starts.specs.StartsVerdict.{startsVerdict}
 use Rattle.obligations.proofs.JudgingLaws.{checks-all}
 
 -- The ranks are the same where the own state and the other's are related.
@@ -82,10 +84,10 @@ module _ (v : View) (r r′ : Ranks) where
         right = λ s t h j l e. ap (stepVerdict 1 s t j) (same-obligation (flip v) (swap r) (swap r′) b j s (subst (λ (x : ℕ). T (v .related s x)) (sym e) h));
       })
 
-  judged-same-ranks : SameRanks v r r′ → SameRanks (flip v) (swap r) (swap r′) → (start start′ : ℕ) → judged v r start start′ ≡ judged v r′ start start′
+  judged-same-ranks : SameRanks v r r′ → SameRanks (flip v) (swap r) (swap r′) → (named : StartsNamed) → judged v r named ≡ judged v r′ named
   unfolding judged
-  judged-same-ranks a b start start′ =
-      then-cong (startsVerdict v start start′)
+  judged-same-ranks a b named =
+      then-cong (startsVerdict v named)
       (λ x. along-cong (λ c. tallied (checkVerdict v r c)) (λ c. tallied (checkVerdict v r′ c))
       (checks v) (all-imply Same _ (λ c h y. ap (λ (x : Verdict Finding). tallied x y) h) (checks v) (checks-same a b)) none)
 
@@ -169,12 +171,11 @@ module _ (left right c c′ : List ℕ) (d : SameWhereRelated left right c c′)
   ranks-same′ = record { stutter = λ t s h. d .ar s t h; match = λ j s h. d .cr j s h }
 
   -- where the certificate is read, the verdict and the pairs are the same
-  judged-same : length c ≡ certificateLength z
-      → judgedBytes left right c (startOf left) (startOf right) ≡ judgedBytes left right c′ (startOf left) (startOf right)
+  judged-same : length c ≡ certificateLength z → judgedBytes left right c ≡ judgedBytes left right c′
   unfolding judgedBytes
   judged-same e =
-      judged-same-ranks (view left right c) (ranks left right c) (ranks left right c′) ranks-same ranks-same′ (startOf left) (startOf right)
-      ∙ ap (λ (rows : List ℕ). judged (viewOf left right rows) (ranks left right c′) (startOf left) (startOf right)) (rows-same e)
+      judged-same-ranks (view left right c) (ranks left right c) (ranks left right c′) ranks-same ranks-same′ (startsNamed left right)
+      ∙ ap (λ (rows : List ℕ). judged (viewOf left right rows) (ranks left right c′) (startsNamed left right)) (rows-same e)
 
   -- the verdict on a certificate where the tables' reads are these
   abbrev verdictOn : List ℕ → TableRead → TableRead → Verdict Tally
@@ -182,7 +183,7 @@ module _ (left right c c′ : List ℕ) (d : SameWhereRelated left right c c′)
       tableVerdict 0 left-read andThen λ h.
       tableVerdict 1 right-read andThen λ k.
       certificateVerdict 2 (readCertificate z x) andThen λ y.
-      judgedBytes left right x (startOf left) (startOf right)
+      judgedBytes left right x
 
   -- two certificates that differ only in ranks of unrelated pairs get the same six numbers
   pub unrelated-ranks : judgeAnswer left right c ≡ judgeAnswer left right c′
@@ -197,5 +198,5 @@ module _ (left right c c′ : List ℕ) (d : SameWhereRelated left right c c′)
       go (table.Good h) (table.Good i) (certificate.Good s) e =
           let l = certificate-ok z c e .1 .long in
           rw (← read-same, e, judged-same l)
-          (ap (λ (rows : List ℕ). answerOf (acceptance (pairsIn rows (statesOf left))) (judgedBytes left right c′ (startOf left) (startOf right)))
+          (ap (λ (rows : List ℕ). answerOf (acceptance (pairsIn rows (statesOf left))) (judgedBytes left right c′))
           (rows-same l))

@@ -20,6 +20,12 @@ P = 0x54 ∷ 0x50 ∷ 0x54 ∷ 0 ∷ 1 ∷ 2 ∷ 0 ∷ 0 ∷ 2 ∷ 0 ∷ 0 ∷ 0
 abbrev pub Q : List ℕ
 Q = 0x54 ∷ 0x50 ∷ 0x54 ∷ 0 ∷ 1 ∷ 3 ∷ 0 ∷ 0 ∷ 3 ∷ 0 ∷ 0 ∷ 0 ∷ 0 ∷ 0 ∷ 1 ∷ 0 ∷ 1 ∷ 1 ∷ 2 ∷ 2 ∷ 0 ∷ []
 
+-- Q in version 3, with this low byte of the start word.
+abbrev pub startingAt : ℕ → List ℕ
+startingAt starts =
+    (0x54 ∷ 0x50 ∷ 0x54 ∷ 0 ∷ 3 ∷ 3 ∷ 0 ∷ 0 ∷ 0 ∷ 0 ∷ 0 ∷ 0 ∷ 0 ∷ starts ∷ 0 ∷ 3 ∷ [])
+    ++ (0 ∷ 0 ∷ 0 ∷ 0 ∷ 0 ∷ 1 ∷ 0 ∷ 1 ∷ 1 ∷ 2 ∷ 2 ∷ 0 ∷ [])
+
 -- A row of 64 bits whose low byte is b.
 abbrev pub low : ℕ → List ℕ
 low b = 0 ∷ 0 ∷ 0 ∷ 0 ∷ 0 ∷ 0 ∷ 0 ∷ b ∷ []

@@ -4,4 +4,5 @@ pub mod Ranks
 pub mod Demand3
 pub mod Ask2
 pub mod Ask3
+pub mod OneStart
 pub mod Examples

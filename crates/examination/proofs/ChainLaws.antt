@@ -5,11 +5,10 @@ use mathlib.Core.Bool.{Bool, cond}
 use native.Mathlib.Omega.{arith}
 use Rattle.lists.specs.Below.{firstBelow}
 use Rattle.lists.proofs.BoolLaws.{cond-true, cond-false}
-use Rattle.answers.specs.Verdicts.{Verdict, refusedWith, passed, firstOf}
+use Rattle.answers.specs.Verdicts.{Verdict, refusedWith, passed, firstOf, asChecked}
 use Rattle.answers.proofs.VerdictLaws.{of-cong, of-none, of-hit, test-hit, test-none}
 use Rattle.obligations.specs.CheckAnswers.{chainAnswer}
-use Rattle.obligations.specs.OnSides.{asChecked}
-use Rattle.obligations.specs.declared.Checked.the-variants.{Passed, Refused}
+use Rattle.answers.specs.declared.Checked.the-variants.{Passed, Refused}
 use Rattle.examination.specs.Examine.{firstChain}
 
 module _ (side m n : ℕ) (long : ℕ → ℕ → Bool) where

@@ -1,5 +1,5 @@
--- The maker's examination is decided by its causes: it refuses with the numbers of the first that applies, and passes where none does. Where each table has
--- one initial state, none applies exactly where the theory's maker succeeds. Assumes nothing.
+-- The maker's examination is decided by its causes: it refuses with the numbers of the first that applies, and passes where none does. None
+-- applies exactly where the theory's maker succeeds. Assumes nothing.
 use Prim.Native.Nat.{ℕ, _<_}
 use mathlib.Core.Path.{_≡_, refl}
 use mathlib.Core.Logic.{_↔_, _⊎_, inl, inr, ⊎-elim}
@@ -15,7 +15,6 @@ use Rattle.bisimulation.specs.Judge.{labelsEqual, initialRelated}
 use Rattle.bisimulation.specs.Runs.{Matched}
 use Rattle.bisimulation.specs.Maker.{matched, chainLength, noneUnmatched, noneEndless, succeeds}
 use Rattle.bisimulation.proofs.ClauseLaws.{flip-formed, pairs-e, pairs-i, steps-e, steps-i, labels-e, labels-i, initial-e, initial-i}
-use Rattle.bisimulation.proofs.Equivalences.{one-initial}
 use Rattle.bisimulation.proofs.RunLaws.{matched-iff, chain-some, chain-bound, chain-most}
 use Rattle.lists.specs.Lists.{All}
 use Rattle.answers.specs.Causes.{Cause, NoCause, Numbered, allows}
@@ -24,10 +23,13 @@ use Rattle.answers.proofs.CauseLaws.{none-append, append-none, numbered-append,
 use Rattle.answers.proofs.DecideLaws.{Decides, decides-as, decides-stable, test-decides, eqb-decides, not-decides, and-decides, or-decides}
 use Rattle.answers.proofs.VerdictLaws.{Decided, Anything, decided-none, decided-test, decided-unless, decided-then, decided-along, decided-below}
 use Rattle.answers.proofs.VerdictLaws.{none-on, on-none}
+use Rattle.starts.specs.StartsNamed.{StartsNamed}
 use Rattle.obligations.specs.CheckAnswers.{labelsAnswer, stepAnswer, chainAnswer}
-use Rattle.obligations.specs.CheckCauses.{startsCauses}
-use Rattle.obligations.specs.Judging.{Check, labelsOf, leftStep, rightStep, checks, startsVerdict}
-use Rattle.obligations.proofs.JudgingLaws.{checks-all, all-checks, starts-decided}
+use Rattle.starts.specs.StartsCauses.{startsCauses}
+use Rattle.obligations.specs.Judging.{Check, labelsOf, leftStep, rightStep, checks}
+use Rattle.starts.specs.StartsVerdict.{startsVerdict}
+use Rattle.obligations.proofs.JudgingLaws.{checks-all, all-checks}
+use Rattle.starts.proofs.StartsLaws.{NamesStarts, starts-decided, starts-iff, starts-numbers}
 use Rattle.examination.specs.Examine.{mayKeep, verdictBy, makerVerdict, endlessAt, firstChain, endless, examined}
 use Rattle.examination.specs.ExaminationCauses.{makerCheckCauses, LongChain, chainCauses, examinationCauses}
 
@@ -82,10 +84,10 @@ module _ (v : View) (w : WellFormed v) where
 
 -- ---- all of it
 
-pub examined-decided : (v : View) → WellFormed v → (start start′ : ℕ) → Decided Anything (examinationCauses v start start′) (examined v start start′)
+pub examined-decided : (v : View) → WellFormed v → (named : StartsNamed) → Decided Anything (examinationCauses v named) (examined v named)
 unfolding examined
-examined-decided v w start start′ =
-    decided-then (startsVerdict v start start′) (starts-decided v start start′) λ x g n.
+examined-decided v w named =
+    decided-then (startsVerdict v named) (starts-decided v (w .here .initial<) (w .there .initial<) named) λ x g n.
     decided-then (firstIn (makerVerdict v) (checks v))
     (decided-along (makerCheckCauses v) (λ c x. makerVerdict v c) (λ c x. check-decided v w c) (checks v) tt) λ y h m.
     decided-then (endless v 0) (endless-decided v w 0) λ z k l.
@@ -140,32 +142,31 @@ seven-i a b c d e f g p q r s t u x = search (and-i)
 seven-e : (a b c d e f g : Bool) → T (a && b && c && (d && e) && (f && g)) → T a × T b × T c × T d × T e × T f × T g
 seven-e a b c d e f g h = search (and-l, and-r)
 
-module _ (v : View) (w : WellFormed v) (start start′ : ℕ) (f : (s : ℕ) → v .own .initial s ≡ eqb s start)
-    (g : (t : ℕ) → v .other .initial t ≡ eqb t start′) where
+module _ (v : View) (w : WellFormed v) (named : StartsNamed) (names : NamesStarts v named) where
   abbrev None : Check → Type 0
   None c = NoCause (makerCheckCauses v c)
 
-  none-succeeds : NoCause (examinationCauses v start start′) → T (succeeds v)
+  none-succeeds : NoCause (examinationCauses v named) → T (succeeds v)
   unfolding succeeds
   none-succeeds n =
-      let a = append-none (startsCauses v start start′) (afterStarts v) n in
+      let a = append-none (startsCauses v named) (afterStarts v) n in
       let b = append-none (flatMap (makerCheckCauses v) (checks v)) (afterChecks v) (a .1) in
       let c = append-none (chainCauses v 0) (chainCauses (flip v) 1) (b .1) in
       let o = all-checks v None w (flat-all (λ x. ¬ x .condition) (makerCheckCauses v) (checks v) (b .0)) in
-      let i = one-initial v start start′ f g .1 (decides-stable (test-decides (v .related start start′)) (a .0 .0)) in
+      let i = starts-iff v (w .here .initial<) (w .there .initial<) named names .0 (a .0) in
       seven-i (initialRelated v) (initialRelated (flip v)) (labelsEqual v) (noneUnmatched v) (noneUnmatched (flip v)) (noneEndless v) (noneEndless (flip v))
       (initial-i v w (i .0)) (initial-i (flip v) (flip-formed v w) (i .1))
       (labels-i v (λ s t h. decides-stable (eqb-decides (v .own .label s) (v .other .label t)) (o .labels s t h .0)))
       (kept-unmatched v w (λ s t h j l e. o .left s t h j l e .0)) (kept-unmatched (flip v) (flip-formed v w) (λ t s h j l e. o .right s t h j l e .0))
       (chains-endless v w 0 (c .0)) (chains-endless (flip v) (flip-formed v w) 1 (c .1))
 
-  succeeds-none : T (succeeds v) → NoCause (examinationCauses v start start′)
+  succeeds-none : T (succeeds v) → NoCause (examinationCauses v named)
   unfolding succeeds
   succeeds-none h =
       let p = seven-e (initialRelated v) (initialRelated (flip v)) (labelsEqual v) (noneUnmatched v) (noneUnmatched (flip v)) (noneEndless v)
       (noneEndless (flip v)) h in
-      let r = one-initial v start start′ f g .0 (initial-e v w (p .0), initial-e (flip v) (flip-formed v w) (p .1)) in
-      none-append (startsCauses v start start′) (afterStarts v) (λ n. n r, tt)
+      none-append (startsCauses v named) (afterStarts v)
+      (starts-iff v (w .here .initial<) (w .there .initial<) named names .1 (initial-e v w (p .0), initial-e (flip v) (flip-formed v w) (p .1)))
       (none-append (flatMap (makerCheckCauses v) (checks v)) (afterChecks v)
       (all-flat (λ x. ¬ x .condition) (makerCheckCauses v) (checks v)
       (checks-all v None (record {
@@ -176,10 +177,10 @@ module _ (v : View) (w : WellFormed v) (start start′ : ℕ) (f : (s : ℕ) →
       (none-append (chainCauses v 0) (chainCauses (flip v) 1) (endless-chains v w 0 (p .5)) (endless-chains (flip v) (flip-formed v w) 1 (p .6))))
 
   -- the examination passes exactly where the maker succeeds
-  pub examined-succeeds : (examined v start start′ ≡ passed) ↔ T (succeeds v)
+  pub examined-succeeds : (examined v named ≡ passed) ↔ T (succeeds v)
   examined-succeeds = (
-    λ e. none-succeeds (on-none e (examined-decided v w start start′) .1),
-    λ h. let q = none-on (examined v start start′) (examined-decided v w start start′) (succeeds-none h) in q .1,
+    λ e. none-succeeds (on-none e (examined-decided v w named) .1),
+    λ h. let q = none-on (examined v named) (examined-decided v w named) (succeeds-none h) in q .1,
   )
 
 -- ---- the numbers are 16, 17, 22 and 23, with the file 2
@@ -196,8 +197,8 @@ module _ (f : ℕ → ℕ → Bool) (h : T (allows f 2 (16 ∷ 17 ∷ 22 ∷ 23 
   chain-numbers : (v : View) (side : ℕ) → Numbered f (chainCauses v side)
   chain-numbers v side = numbered-below f (v .other .states) _ (λ b. numbered-below f (v .own .states) _ (λ c. (each .1 .1 .1 .0, tt)))
 
-  pub examination-numbers : (v : View) (start start′ : ℕ) → Numbered f (examinationCauses v start start′)
-  examination-numbers v start start′ =
-      numbered-append f (startsCauses v start start′) (afterStarts v) (each .0, tt)
+  pub examination-numbers : (v : View) (named : StartsNamed) → Numbered f (examinationCauses v named)
+  examination-numbers v named =
+      numbered-append f (startsCauses v named) (afterStarts v) (starts-numbers f (each .0) v named)
       (numbered-append f (flatMap (makerCheckCauses v) (checks v)) (afterChecks v) (numbered-flat f (makerCheckCauses v) (check-numbers v) (checks v))
       (numbered-append f (chainCauses v 0) (chainCauses (flip v) 1) (chain-numbers v 0) (chain-numbers (flip v) 1)))

@@ -1,5 +1,4 @@
 -- Laws of the maker's examination.
-pub mod CheckedLaws
 pub mod KeptLaws
 pub mod StepLaws
 pub mod WordLaws

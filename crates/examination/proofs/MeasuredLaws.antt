@@ -10,15 +10,17 @@ use Rattle.words.specs.Bits.{hasBit}
 use Rattle.bisimulation.specs.Systems.{View, WellFormed, flip, stays}
 use Rattle.answers.specs.Verdicts.{passIf, firstIn}
 use Rattle.answers.proofs.VerdictLaws.{along-cong, then-same}
-use Rattle.sides.specs.Side.{systemIn, startIn, relatedTo}
+use Rattle.sides.specs.Side.{systemIn, relatedTo}
 use Rattle.sides.specs.Built.{Linked}
 use Rattle.sides.specs.Views.{viewIn}
+use Rattle.starts.specs.StartsNamed.{startsNamedIn}
 use Rattle.sides.proofs.ViewLaws.{steps-few}
 use Rattle.obligations.specs.CheckAnswers.{stepAnswer}
-use Rattle.obligations.specs.Judging.{checks, startsVerdict}
+use Rattle.obligations.specs.Judging.{checks}
 use Rattle.obligations.specs.OnSides.{checksIn}
 use Rattle.obligations.proofs.JudgingLaws.{checks-all}
 use Rattle.obligations.proofs.OnSidesLaws.{checks-in}
+use Rattle.starts.proofs.OnSidesLaws.{starts-in}
 use Rattle.lengths.specs.Cells.{distanceTable, chainTable}
 use Rattle.lengths.proofs.DistanceLaws.{matched-test}
 use Rattle.lengths.proofs.LengthTableLaws.{table-distance, table-chain}
@@ -84,8 +86,8 @@ module _ (ours theirs : List ℕ) (a : Linked ours) (b : Linked theirs) (formed 
   -- what is read off the tables of both sides is the theory's examination
   pub examination-is : examinedIn ours theirs (distanceTable (viewIn ours theirs)) (distanceTable (viewIn theirs ours)) (chainTable (viewIn ours theirs))
       (chainTable (viewIn theirs ours))
-      ≡ examined v (startIn ours) (startIn theirs)
+      ≡ examined v (startsNamedIn ours theirs)
   unfolding examinedIn examined
   examination-is =
-      then-same {v = startsVerdict v (startIn ours) (startIn theirs)} refl (then-same pairs-are (then-same (chains-are ours theirs turned 0)
+      then-same (starts-in ours theirs flipped) (then-same pairs-are (then-same (chains-are ours theirs turned 0)
       (chains-are theirs ours (λ t s. sym (turned s t)) 1 ∙ ap (λ (w : View). endless w 1) flipped)))

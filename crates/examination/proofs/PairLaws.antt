@@ -7,20 +7,21 @@ use mathlib.Core.List.{List, [], _∷_, _++_, map}
 use native.Mathlib.Omega.{arith}
 use borrow.Author.Tests.{eq-eqb, ne-eqb}
 use Rattle.answers.specs.declared.Answer.{Answer}
-use Rattle.answers.specs.Verdicts.{Verdict, _andThen_, passed, passIf, firstOf, firstIn}
+use Rattle.answers.specs.Verdicts.{Verdict, _andThen_, passed, passIf, firstOf, firstIn, asChecked}
 use Rattle.answers.proofs.VerdictLaws.{then-same, along-map, in-append, in-join, in-when, in-one, of-cong, of-none, of-hit}
-use Rattle.sides.specs.Side.{systemIn, startIn, stepsIn, relatedTo}
+use Rattle.sides.specs.Side.{systemIn, stepsIn, relatedTo}
 use Rattle.sides.specs.Views.{viewIn}
 use Rattle.sides.proofs.ViewLaws.{states-few}
 use Rattle.obligations.specs.CheckAnswers.{labelsAnswer}
-use Rattle.obligations.specs.Judging.{labelsOf, leftStep, rightStep, pairChecks, checksBy, startsVerdict}
-use Rattle.obligations.specs.OnSides.{asChecked, checksIn}
+use Rattle.obligations.specs.Judging.{labelsOf, leftStep, rightStep, pairChecks, checksBy}
+use Rattle.obligations.specs.OnSides.{checksIn}
+use Rattle.starts.specs.StartsVerdict.{startsIn}
 use Rattle.obligations.specs.declared.Place.{Place}
-use Rattle.obligations.specs.declared.Checked.the-variants.{Passed, Refused}
+use Rattle.answers.specs.declared.Checked.the-variants.{Passed, Refused}
 use Rattle.examination.specs.Examine.{verdictBy}
 use Rattle.examination.specs.OnSides.{verdictIn, chainsIn, examinedIn}
 use Rattle.examination.specs.Walk.{stepVerdictIn, pairIn, rowIn}
-use Rattle.examination.proofs.CheckedLaws.{was-passed, was-refused}
+use Rattle.answers.proofs.CheckedLaws.{was-passed, was-refused}
 use Rattle.examination.proofs.WordLaws.{atState, InWord, word-refused, word-end}
 
 module _ (ours theirs distances distances′ : List ℕ) where
@@ -116,7 +117,7 @@ module _ (ours theirs distances distances′ : List ℕ) where
 
 module _ (ours theirs distances distances′ chains chains′ : List ℕ) where
   abbrev starts : Verdict (Unit {0})
-  starts = startsVerdict (viewIn ours theirs) (startIn ours) (startIn theirs)
+  starts = startsIn ours theirs
 
   abbrev pairs : Verdict (Unit {0})
   pairs = pairsIn ours theirs distances distances′

@@ -7,8 +7,10 @@ use Rattle.lists.specs.Lists.{joinBelow}
 use Rattle.bisimulation.specs.Systems.{View, flip, Stays}
 use Rattle.bisimulation.specs.Runs.{Matched, StutteringChain}
 use Rattle.answers.specs.Causes.{Cause, _gives_}
+use Rattle.starts.specs.StartsNamed.{StartsNamed}
 use Rattle.obligations.specs.CheckAnswers.{stepAnswer, chainAnswer}
-use Rattle.obligations.specs.CheckCauses.{startsCauses, labelCauses}
+use Rattle.obligations.specs.CheckCauses.{labelCauses}
+use Rattle.starts.specs.StartsCauses.{startsCauses}
 use Rattle.obligations.specs.Judging.{Check, labelsOf, leftStep, rightStep, checks}
 
 -- 22: an unmatched obligation with u, t unrelated.
@@ -30,5 +32,5 @@ abbrev pub chainCauses : View → ℕ → List Cause
 chainCauses v side = joinBelow (v .other .states) (λ b. joinBelow (v .own .states) (λ c. LongChain v b c gives chainAnswer side b c ∷ []))
 
 -- 16, then pairs and steps in judging order for 17 and 22, then 23, left side first.
-abbrev pub examinationCauses : View → ℕ → ℕ → List Cause
-examinationCauses v start start′ = startsCauses v start start′ ++ (flatMap (makerCheckCauses v) (checks v) ++ (chainCauses v 0 ++ chainCauses (flip v) 1))
+abbrev pub examinationCauses : View → StartsNamed → List Cause
+examinationCauses v named = startsCauses v named ++ (flatMap (makerCheckCauses v) (checks v) ++ (chainCauses v 0 ++ chainCauses (flip v) 1))

@@ -6,8 +6,10 @@ use lib.Dec.{leb, eqb}
 use Rattle.bisimulation.specs.Systems.{View, flip, stays}
 use Rattle.bisimulation.specs.Maker.{matched, chainLength}
 use Rattle.answers.specs.Verdicts.{Verdict, refusedWith, _andThen_, passed, passIf, firstOf, firstIn}
+use Rattle.starts.specs.StartsNamed.{StartsNamed}
 use Rattle.obligations.specs.CheckAnswers.{labelsAnswer, stepAnswer, chainAnswer}
-use Rattle.obligations.specs.Judging.{Check, labelsOf, leftStep, rightStep, checks, startsVerdict}
+use Rattle.obligations.specs.Judging.{Check, labelsOf, leftStep, rightStep, checks}
+use Rattle.starts.specs.StartsVerdict.{startsVerdict}
 
 -- ---- 17 and 22
 
@@ -40,9 +42,9 @@ endless v side = firstChain side (v .other .states) (v .own .states) (endlessAt 
 
 -- ---- all of it
 
-unfoldable pub examined : View → ℕ → ℕ → Verdict (Unit {0})
-examined v start start′ =
-    startsVerdict v start start′ andThen λ x.
+unfoldable pub examined : View → StartsNamed → Verdict (Unit {0})
+examined v named =
+    startsVerdict v named andThen λ x.
     firstIn (makerVerdict v) (checks v) andThen λ y.
     endless v 0 andThen λ z.
     endless (flip v) 1

@@ -10,7 +10,8 @@ use Rattle.answers.specs.Verdicts.{Verdict, _andThen_, firstIn}
 use Rattle.sides.specs.Side.{systemIn}
 use Rattle.sides.specs.Views.{viewIn}
 use Rattle.obligations.specs.Judging.{Check}
-use Rattle.obligations.specs.OnSides.{checksIn, startsIn}
+use Rattle.obligations.specs.OnSides.{checksIn}
+use Rattle.starts.specs.StartsVerdict.{startsIn}
 use Rattle.examination.specs.Examine.{verdictBy, firstChain}
 
 -- The own step j may be kept at t: it is matched there by the table of distances, or it stays.

@@ -1,10 +1,9 @@
 // The maker's examination of a relation: the starts, the pairs with their labels and steps, and the chains. It reads two sides and the tables of their
 // lengths, and writes nothing.
 use answers::Answer;
+use answers::Checked;
 use lists::byte;
-use obligations::Checked;
 use obligations::Place;
-use obligations::check_starts;
 use sides::Side;
 use sides::first;
 use sides::label;
@@ -12,14 +11,15 @@ use sides::next;
 use sides::related;
 use sides::states;
 use sides::to;
+use starts::check_starts;
 use tables::Head;
 ghost use mathlib.Core.Path.{_≡_};
 ghost use Prim.Native.Nat.{_<_};
 ghost use Rattle.lists.specs.Below.{firstBelow};
-ghost use Rattle.answers.specs.Verdicts.{firstIn};
+ghost use Rattle.answers.specs.Verdicts.{firstIn, asChecked};
 ghost use Rattle.sides.specs.Side.{systemIn, stepsIn};
 ghost use Rattle.sides.specs.Views.{viewIn};
-ghost use Rattle.obligations.specs.OnSides.{asChecked, checksIn};
+ghost use Rattle.obligations.specs.OnSides.{checksIn};
 ghost use Rattle.examination.specs.OnSides.{keptBy, longBy, verdictIn, chainsIn, examinedIn};
 ghost use Rattle.examination.specs.Walk.{stepVerdictIn, pairIn, rowIn};
 

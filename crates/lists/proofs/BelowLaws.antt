@@ -10,7 +10,7 @@ use native.Mathlib.Omega.{arith}
 use native.Mathlib.Decide.{decLt}
 use lib.Dec.{T}
 use Rattle.lists.specs.Below.{anyBelow, allBelow, firstBelow, Smallest, sumBelow, countBelow, mostBelow}
-use Rattle.lists.proofs.BoolLaws.{and-l, and-r, and-i, or-e, or-l, or-r, T-dec, T-true, true-T, false-not-T, cond-true}
+use Rattle.lists.proofs.BoolLaws.{and-l, and-r, and-i, or-e, or-l, or-r, T-dec, true-T, false-not-T, cond-true}
 
 -- ---- some
 

@@ -9,6 +9,7 @@ use lib.Arith.{digits-lt, lt-one}
 use lib.ListN.{length, getD, length-append, List·getD-append}
 use lib.Seq.{getD-at}
 use Rattle.lists.specs.Numbers.{byteAt, bigEndian, bigBytes}
+use Rattle.lists.proofs.FillLaws.{getD-past}
 use Rattle.lists.proofs.FlatLaws.{flat-at}
 
 pub big-more : (s : List ℕ) (at i : ℕ) → bigEndian s at (i + 1) ≡ bigEndian s at i * 256 + byteAt s (at + i)
@@ -30,6 +31,12 @@ pub big-cong : (s t : List ℕ) (a b : ℕ) (k : ℕ) → ((i : ℕ) → i < k �
 unfolding bigEndian
 big-cong s t a b zero h = refl
 big-cong s t a b (suc k) h = ap₂ (λ (x y : ℕ). x * 256 + y) (big-cong s t a b k (λ i l. h i (omega arith))) (h k (omega arith))
+
+-- past the end stand zeros
+pub big-past : (s : List ℕ) (at k : ℕ) → length s ≤ at → bigEndian s at k ≡ 0
+unfolding bigEndian
+big-past s at zero h = refl
+big-past s at (suc k) h = rw (big-past s at k h, getD-past s (at + k) (omega arith))
 
 -- the number in m bytes of part i of equally long parts
 pub flat-number : {A : Type 0} (k : ℕ) (g : A → List ℕ) → ((x : A) → length (g x) ≡ k) → (a : A) (xs : List A) (l : List ℕ) (i o m : ℕ)

@@ -1,6 +1,6 @@
 // Total reads of bytes, of numbers in bytes and of parts, for every slice and every index; and a front written over a slice.
 ghost use mathlib.Core.Path.{_≡_};
-ghost use Prim.Native.Nat.{_+_, _^_, _≤_, _<_};
+ghost use Prim.Native.Nat.{_+_, _^_, _≤_, _<_, min};
 ghost use Rattle.lists.specs.Lists.{part, putFront};
 ghost use Rattle.lists.specs.Numbers.{byteAt, bigEndian};
 
@@ -56,19 +56,21 @@ pub fn read_be16(s: &[u8], at: usize) -> u64
     number(s, at, 2)
 }
 
-// The number in the 4 bytes from at on.
-pub fn read_be32(s: &[u8], at: usize) -> u64
-    ensures value { λ r. ⌜ r ≡ bigEndian (now (s .entry)) at 4 ⌝ }
-    ensures small { λ r. ⌜ r < 4294967296 ⌝ }
-{
-    number(s, at, 4)
-}
-
 // The number in the 8 bytes from at on.
 pub fn read_be64(s: &[u8], at: usize) -> u64
     ensures { λ r. ⌜ r ≡ bigEndian (now (s .entry)) at 8 ⌝ }
 {
     number(s, at, 8)
+}
+
+// The number in the k bytes from at on; of more than 8 bytes the first 8 count.
+pub fn read_be(s: &[u8], at: usize, k: usize) -> u64
+    ensures { λ r. ⌜ r ≡ bigEndian (now (s .entry)) at (min k 8) ⌝ }
+{
+    if 8 < k {
+        return number(s, at, 8);
+    }
+    number(s, at, k)
 }
 
 // The bytes from a up to e, as far as there are any.

@@ -12,8 +12,8 @@ use Rattle.lists.proofs.JoinLaws.{all-append, append-all, all-join, join-all, a
 use Rattle.answers.specs.Causes.{NoCause, Numbered, allows}
 use Rattle.answers.proofs.CauseLaws.{allowed}
 use Rattle.answers.specs.Verdicts.{goOn, refusedWith}
-use Rattle.answers.proofs.DecideLaws.{Decides, decides-stable, test-decides, eqb-decides, not-decides, or-decides}
-use Rattle.answers.proofs.VerdictLaws.{Decided, Anything, decided-none, decided-as, decided-unless}
+use Rattle.answers.proofs.DecideLaws.{Decides, decides-stable, eqb-decides, not-decides, or-decides}
+use Rattle.answers.proofs.VerdictLaws.{Decided, decided-none, decided-as, decided-unless}
 use Rattle.bisimulation.specs.Systems.{System, View, Ranks, WellFormed, flip, swap, stepsFrom, LabelsEqual}
 use Rattle.bisimulation.specs.Clauses.{Meets, EveryObligation}
 use Rattle.bisimulation.specs.Judge.{is2a, is2b, is2c}
@@ -22,10 +22,10 @@ use Rattle.outcomes.specs.declared.Outcome.{Outcome}
 use Rattle.outcomes.specs.declared.Outcome.the-variants.{Met, Failed}
 use Rattle.outcomes.specs.Obligation.{obligationAt}
 use Rattle.obligations.specs.Outcomes.{HasOutcome}
-use Rattle.obligations.specs.CheckAnswers.{startsAnswer, labelsAnswer}
+use Rattle.obligations.specs.CheckAnswers.{labelsAnswer}
 use Rattle.obligations.specs.Judging.{Check, labelsOf, leftStep, rightStep, pairChecks, checksBy, checks, isObligation}
-use Rattle.obligations.specs.Judging.{startsVerdict, Finding, nothing, metBy, stepVerdict, checkVerdict}
-use Rattle.obligations.specs.CheckCauses.{startsCauses, unmetCauses, checkCauses, CheckHasOutcome}
+use Rattle.obligations.specs.Judging.{Finding, nothing, metBy, stepVerdict, checkVerdict}
+use Rattle.obligations.specs.CheckCauses.{unmetCauses, checkCauses, CheckHasOutcome}
 use Rattle.obligations.proofs.OutcomeLaws.{step-decides, stutter-decides, match-decides, meets-first, outcome-is}
 
 -- ---- what holds of all checks
@@ -76,14 +76,6 @@ module _ (v : View) (P : Check → Type 0) where
           left = λ s t h. all-steps (v .own) s _ (map-all P (leftStep s t) (stepsFrom (v .own) s) (pair-steps s t h .0));
           right = λ s t h. all-steps (v .other) t _ (map-all P (rightStep s t) (stepsFrom (v .other) t) (pair-steps s t h .1));
         }
-
--- ---- the starts
-
-pub starts-decided : (v : View) (start start′ : ℕ) → Decided Anything (startsCauses v start start′) (startsVerdict v start start′)
-unfolding startsVerdict
-starts-decided v start start′ =
-    decided-unless (λ x. x) (v .related start start′) (refusedWith (startsAnswer start start′)) (goOn tt)
-    (not-decides (test-decides (v .related start start′))) refl (decided-none tt)
 
 -- ---- one check
 

@@ -1,4 +1,4 @@
--- Laws of what is read off two sides: the checks in judging order, the starts and one obligation are those of the view that the sides hold; how many steps
+-- Laws of what is read off two sides: the checks in judging order and one obligation are those of the view that the sides hold; how many steps
 -- there can be from a state, and where the runs of ranks lie. Assumes nothing.
 use Prim.Native.Nat.{ℕ, zero, suc, _+_, _*_, _^_, _≤_, _<_}
 use mathlib.Core.Path.{_≡_, refl, sym, ap, ap₂, fun-ext, _∙_}
@@ -19,18 +19,16 @@ use Rattle.bisimulation.specs.Systems.{View, Ranks, WellFormed, flip, swap}
 use Rattle.certificates.specs.declared.Sizes.{Sizes}
 use Rattle.certificates.specs.Layout.{alAt, arAt, clAt, crAt}
 use Rattle.certificates.proofs.LayoutLaws.{products-fit}
-use Rattle.sides.specs.Side.{systemIn, startIn, relatedTo, enteredFrom, linkedFrom, nextStep, stepsIn}
+use Rattle.sides.specs.Side.{systemIn, relatedTo, enteredFrom, linkedFrom, nextStep, stepsIn}
 use Rattle.sides.specs.Views.{viewIn}
 use Rattle.sides.specs.Built.{Linked}
-use Rattle.obligations.specs.declared.Checked.the-variants.{Passed, Refused}
 use Rattle.outcomes.specs.declared.Clause.the-variants.{Step}
 use Rattle.outcomes.specs.declared.Outcome.the-variants.{Met}
 use Rattle.obligations.specs.declared.Run.{Run}
-use Rattle.obligations.specs.CheckAnswers.{startsAnswer}
 use Rattle.outcomes.specs.Obligation.{withoutStep, obligationOf, obligationAt}
 use Rattle.outcomes.proofs.ObligationLaws.{Faces, Ranked}
-use Rattle.obligations.specs.Judging.{checksBy, checks, startsVerdict}
-use Rattle.obligations.specs.OnSides.{checksIn, startsIn, asChecked, stutterAt, matchRow, facingIn, obligationIn}
+use Rattle.obligations.specs.Judging.{checksBy, checks}
+use Rattle.obligations.specs.OnSides.{checksIn, stutterAt, matchRow, facingIn, obligationIn}
 use Rattle.outcomes.proofs.ObligationLaws.{obligation-is}
 
 -- ---- the checks
@@ -54,20 +52,6 @@ pub checks-in : {ours theirs : List ℕ} → Linked ours → Linked theirs → c
 unfolding checksIn checks
 checks-in {ours} {theirs} a b =
     ap₂ (checksBy (systemIn ours .states) (systemIn theirs .states) (viewIn ours theirs .related)) (fun-ext (a .steps-are)) (fun-ext (b .steps-are))
-
--- ---- the starts
-
-module _ (ours theirs : List ℕ) {s t word : ℕ} (es : s ≡ startIn ours) (et : t ≡ startIn theirs) (ew : word ≡ relatedTo ours s) where
-  word-is : hasBit word t ≡ viewIn ours theirs .related (startIn ours) (startIn theirs)
-  word-is = ap₂ hasBit (ew ∙ ap (relatedTo ours) es) et
-
-  pub starts-pass : hasBit word t ≡ true → Passed ≡ asChecked (startsIn ours theirs)
-  unfolding startsVerdict
-  starts-pass e = sym (rw (sym word-is ∙ e))
-
-  pub starts-differ : hasBit word t ≡ false → Refused (startsAnswer s t) ≡ asChecked (startsIn ours theirs)
-  unfolding startsVerdict
-  starts-differ e = sym (rw (sym word-is ∙ e, es, et))
 
 -- ---- the ranks
 

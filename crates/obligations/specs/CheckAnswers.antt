@@ -5,10 +5,6 @@ use lib.Dec.{eqb}
 use Rattle.answers.specs.declared.Answer.{Answer}
 use Rattle.obligations.specs.declared.Place.{Place}
 
--- 16: the starts.
-abbrev pub startsAnswer : ℕ → ℕ → Answer
-startsAnswer s t = record { code = 16; file = 2; a = s; b = t; c = 0; d = 0 }
-
 -- 17: the pair.
 abbrev pub labelsAnswer : ℕ → ℕ → Answer
 labelsAnswer s t = record { code = 17; file = 2; a = s; b = t; c = 0; d = 0 }

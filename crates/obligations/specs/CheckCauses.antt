@@ -1,20 +1,15 @@
--- The causes 16 to 19, each worded as its row of document 01's table, and not through the judge's tests; and by which clause a check is met.
+-- The causes 17 to 19, each worded as its row of document 01's table, and not through the judge's tests; and by which clause a check is met.
 use Prim.Native.Nat.{ℕ}
 use mathlib.Core.Path.{_≡_}
 use mathlib.Core.List.{List, [], _∷_}
-use lib.Dec.{T}
 use Rattle.bisimulation.specs.Systems.{View, Ranks, flip, swap}
 use Rattle.bisimulation.specs.Clauses.{Meets}
 use Rattle.answers.specs.Causes.{Cause, _gives_}
-use Rattle.obligations.specs.CheckAnswers.{startsAnswer, labelsAnswer, stepAnswer}
+use Rattle.obligations.specs.CheckAnswers.{labelsAnswer, stepAnswer}
 use Rattle.obligations.specs.Outcomes.{Apart, MetFirstBy, HasOutcome}
 use Rattle.obligations.specs.Judging.{Check, labelsOf, leftStep, rightStep}
 use Rattle.outcomes.specs.declared.Clause.{Clause}
 use Rattle.outcomes.specs.declared.Outcome.{Outcome}
-
--- 16: the starts are unrelated.
-abbrev pub startsCauses : View → ℕ → ℕ → List Cause
-startsCauses v start start′ = (¬ T (v .related start start′)) gives startsAnswer start start′ ∷ []
 
 -- 17: the labels differ.
 abbrev pub labelCauses : View → ℕ → ℕ → List Cause

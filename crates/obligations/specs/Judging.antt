@@ -7,9 +7,9 @@ use lib.Dec.{eqb}
 use Rattle.lists.specs.Below.{sumBelow, countBelow}
 use Rattle.lists.specs.Lists.{joinBelow}
 use Rattle.bisimulation.specs.Systems.{System, View, Ranks, flip, swap, stepsFrom}
-use Rattle.answers.specs.Verdicts.{Verdict, goOn, refusedWith, passIf}
+use Rattle.answers.specs.Verdicts.{Verdict, goOn, refusedWith}
 use Rattle.outcomes.specs.Obligation.{failureNumber, obligationAt}
-use Rattle.obligations.specs.CheckAnswers.{startsAnswer, labelsAnswer, stepAnswer}
+use Rattle.obligations.specs.CheckAnswers.{labelsAnswer, stepAnswer}
 use Rattle.outcomes.specs.declared.Clause.{Clause}
 use Rattle.outcomes.specs.declared.Outcome.{Outcome}
 use Rattle.outcomes.specs.declared.Outcome.the-variants.{Met, Failed}
@@ -31,10 +31,6 @@ checksBy n n′ related left right = joinBelow n (λ s. joinBelow n′ (λ t. co
 -- All checks of a view, in judging order.
 unfoldable pub checks : View → List Check
 checks v = checksBy (v .own .states) (v .other .states) (v .related) (stepsFrom (v .own)) (stepsFrom (v .other))
-
--- The starts are tested before all checks: 16 where they are unrelated.
-unfoldable pub startsVerdict : View → ℕ → ℕ → Verdict (Unit {0})
-startsVerdict v start start′ = passIf (v .related start start′) (startsAnswer start start′)
 
 -- What a check that goes on has found: nothing to count, or the clause that meets an obligation and the state that serves.
 pub data Finding : Type 0 where

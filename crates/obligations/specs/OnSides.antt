@@ -1,4 +1,4 @@
--- What is read off two sides and a certificate: the checks in judging order, the starts, and one obligation with its ranks.
+-- What is read off two sides and a certificate: the checks in judging order, and one obligation with its ranks.
 use Prim.Native.Nat.{ℕ, _+_, _*_}
 use mathlib.Core.Bool.{true, cond, _&&_}
 use mathlib.Core.List.{List, []}
@@ -8,13 +8,10 @@ use Rattle.lists.specs.Numbers.{byteAt}
 use Rattle.tables.specs.Table.{maxStates, maxSteps}
 use Rattle.certificates.specs.Layout.{alAt, arAt, clAt, crAt}
 use Rattle.certificates.specs.declared.Sizes.{Sizes}
-use Rattle.answers.specs.Verdicts.{Verdict, goOn, refusedWith}
-use Rattle.sides.specs.Side.{systemIn, startIn, relatedTo, enteredFrom, stepsIn}
+use Rattle.sides.specs.Side.{systemIn, relatedTo, enteredFrom, stepsIn}
 use Rattle.sides.specs.Views.{viewIn}
 use Rattle.outcomes.specs.Obligation.{obligationOf}
-use Rattle.obligations.specs.Judging.{Check, checksBy, startsVerdict}
-use Rattle.obligations.specs.declared.Checked.{Checked}
-use Rattle.obligations.specs.declared.Checked.the-variants.{Passed, Refused}
+use Rattle.obligations.specs.Judging.{Check, checksBy}
 use Rattle.outcomes.specs.declared.Facing.{Facing}
 use Rattle.outcomes.specs.declared.Outcome.{Outcome}
 use Rattle.obligations.specs.declared.Run.{Run}
@@ -22,15 +19,6 @@ use Rattle.obligations.specs.declared.Run.{Run}
 -- The checks of the related pairs, the steps in the order in which the links lead along them.
 unfoldable pub checksIn : (ours theirs : List ℕ) → List Check
 checksIn ours theirs = checksBy (systemIn ours .states) (systemIn theirs .states) (viewIn ours theirs .related) (stepsIn ours) (stepsIn theirs)
-
--- The verdict on the starts.
-abbrev pub startsIn : (ours theirs : List ℕ) → Verdict (Unit {0})
-startsIn ours theirs = startsVerdict (viewIn ours theirs) (startIn ours) (startIn theirs)
-
--- The code's enum for a verdict that finds nothing.
-abbrev pub asChecked : Verdict (Unit {0}) → Checked
-asChecked (goOn x) = Passed
-asChecked (refusedWith answer) = Refused answer
 
 -- ---- the ranks
 

@@ -1,5 +1,4 @@
-// One obligation on two sides: each set of states that its outcome is told from is one read, and so are its ranks in a certificate. Then the test of the
-// starts. Neither knows a table.
+// One obligation on two sides: each set of states that its outcome is told from is one read, and so are its ranks in a certificate. It knows no table.
 use answers::Answer;
 use certificates::Sizes;
 use lists::byte;
@@ -11,13 +10,12 @@ use outcomes::without_step;
 use sides::Side;
 use sides::entered;
 use sides::from;
-use sides::initial;
 use sides::related;
 use sides::to;
 use tables::Head;
 ghost use mathlib.Core.Path.{_≡_};
 ghost use Rattle.obligations.specs.CheckAnswers.{leftState, rightState, placeAnswer};
-ghost use Rattle.obligations.specs.OnSides.{startsIn, asChecked, leftRun, rightRun, stutterAt, matchRow, obligationIn};
+ghost use Rattle.obligations.specs.OnSides.{leftRun, rightRun, stutterAt, matchRow, obligationIn};
 
 // Where the A ranks and the C ranks of a side begin in a certificate, and how many states the other side has. The widths are such that no sum of them
 // is too large.
@@ -32,12 +30,6 @@ pub struct Place {
     pub side: usize,
     pub own: usize,
     pub other: usize,
-}
-
-// Whether a test passes, or what it is refused with.
-pub enum Checked {
-    Passed,
-    Refused(Answer),
 }
 
 impl Place {
@@ -160,26 +152,4 @@ pub fn obligation_at(
     let after = stutter_at(certificate, run, u, t);
     let ranks = match_row(certificate, run, j);
     without_step(facing, t, before, after, ranks)
-}
-
-// Whether the starts are related: 16 where they are not. The start of a side is its smallest initial state.
-pub fn check_starts(ours: &Side, theirs: &Side) -> Checked
-    ensures { λ r. ⌜ r ≡ asChecked (startsIn (now (ours .entry)) (now (theirs .entry))) ⌝ }
-{
-    let first = initial(ours);
-    let second = initial(theirs);
-    let s = first.first();
-    let t = second.first();
-    let states = related(ours, s);
-    if states.has(t) {
-        return Checked::Passed;
-    }
-    Checked::Refused(Answer {
-        code: 16,
-        file: 2,
-        a: s,
-        b: t,
-        c: 0,
-        d: 0,
-    })
 }

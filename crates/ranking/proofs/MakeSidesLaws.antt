@@ -9,7 +9,7 @@ use Rattle.lists.specs.Lists.{putFront}
 use Rattle.bisimulation.specs.Systems.{System, View, WellFormed, flip}
 use Rattle.bisimulation.specs.Maker.{stutterRank, matchRank, made}
 use Rattle.answers.specs.Numbers.{sixNumbers}
-use Rattle.answers.specs.Verdicts.{Verdict, goOn, refusedWith, answerOf, outputAfter}
+use Rattle.answers.specs.Verdicts.{Verdict, goOn, refusedWith, answerOf, outputAfter, asChecked}
 use Rattle.answers.specs.declared.Answer.{Answer}
 use Rattle.tables.specs.declared.Head.{Head}
 use Rattle.tables.specs.Table.{statesOf, labelsPart, stepsPart}
@@ -22,22 +22,22 @@ use Rattle.certificates.specs.Layout.{sizesFor, sizesOf, rowLength, certificate
 use Rattle.certificates.specs.CertificateModel.{AreBytes, viewOf}
 use Rattle.certificate_reader.proofs.CertificateLaws.{relation-ok, sizes-are, view-formed}
 use Rattle.relation_words.specs.Relation.{rowWords, columnWords}
-use Rattle.sides.specs.Side.{systemIn, startIn}
+use Rattle.sides.specs.Side.{systemIn}
 use Rattle.sides.specs.Built.{SideOf}
 use Rattle.sides.specs.Views.{viewIn}
-use Rattle.sides.proofs.ViewLaws.{system-is, start-is, side-linked, view-is, view-flipped}
+use Rattle.sides.proofs.ViewLaws.{system-is, side-linked, view-is, view-flipped}
+use Rattle.starts.proofs.OnSidesLaws.{starts-named}
 use Rattle.lengths.specs.Cells.{distanceTable, chainTable}
 use Rattle.rank_grids.specs.RankGrids.{stutterGrid, matchGrid}
 use Rattle.rank_grids.proofs.RankGridLaws.{stutter-by-chains, match-by-table}
 use Rattle.files.specs.File.{certificateFile}
 use Rattle.files.specs.Writer.{cellIn, ranksIn, fileWritten}
 use Rattle.files.proofs.FileLaws.{RanksAgree, file-same}
-use Rattle.obligations.specs.declared.Checked.{Checked}
-use Rattle.obligations.specs.declared.Checked.the-variants.{Passed, Refused}
-use Rattle.obligations.specs.OnSides.{asChecked}
+use Rattle.answers.specs.declared.Checked.{Checked}
+use Rattle.answers.specs.declared.Checked.the-variants.{Passed, Refused}
 use Rattle.examination.specs.Examine.{examined}
 use Rattle.examination.specs.OnSides.{examinedIn}
-use Rattle.examination.proofs.CheckedLaws.{was-passed, was-refused}
+use Rattle.answers.proofs.CheckedLaws.{was-passed, was-refused}
 use Rattle.examination.proofs.MeasuredLaws.{examination-is}
 use Rattle.inputs.specs.Inputs.{InputsRead, readVerdict}
 use Rattle.inputs.proofs.InputLaws.{inputs-read}
@@ -113,7 +113,7 @@ module _ (left right relation : List ℕ) {h k : Head} {ours theirs : List ℕ} 
   examined-is =
       examination-is ours theirs (side-linked left gl a) (side-linked right gr b) (subst WellFormed (sym same) (formed left right relation read bytes))
       (turned ∙ ap flip (sym same))
-      ∙ ap (λ (w : View). examined w (startIn ours) (startIn theirs)) same ∙ ap₂ (λ (s t : ℕ). examined v s t) (start-is left gl a) (start-is right gr b)
+      ∙ ap₂ examined same (starts-named left right gl gr a b)
 
   -- the ranks of the sides are the theory's, inside the tables
   ranks-agree : RanksAgree (sizesOf left right) (ranksMade ours theirs) (made v)

@@ -9,7 +9,6 @@ use Rattle.answers.specs.Verdicts.{Verdict, refusedWith, _andThen_, passed}
 use Rattle.answers.proofs.CauseLaws.{numbered-append}
 use Rattle.answers.proofs.DecideLaws.{ltb-decides}
 use Rattle.answers.proofs.VerdictLaws.{Decided, Anything, decided-none, decided-test, decided-then, then-cong, then-then}
-use Rattle.tables.specs.Table.{startOf}
 use Rattle.table_reader.specs.TableReading.{readTable}
 use Rattle.table_reader.specs.TableVerdicts.{tableVerdict}
 use Rattle.table_reader.specs.TableCauses.{tableCauses}
@@ -20,6 +19,7 @@ use Rattle.certificate_reader.specs.CertificateReading.{readRelation}
 use Rattle.certificate_reader.specs.CertificateVerdicts.{relationVerdict}
 use Rattle.certificate_reader.specs.CertificateCauses.{relationCauses}
 use Rattle.certificate_reader.proofs.CertificateCauseLaws.{relation-decided, relation-none-good, relation-numbers}
+use Rattle.starts.specs.StartsNamed.{startsNamed}
 use Rattle.examination.specs.ExaminationCauses.{examinationCauses}
 use Rattle.examination.proofs.ExamineLaws.{examined-decided, examination-numbers}
 use Rattle.inputs.specs.Inputs.{InputsRead, readVerdict}
@@ -51,7 +51,7 @@ module _ (left right relation output : List ℕ) where
         right-good = formed-good right k;
         relation-good = relation-none-good 2 (sizesOf left right) relation n;
       } in
-      examined-decided (viewOf left right relation) (formed left right relation read bytes) (startOf left) (startOf right))
+      examined-decided (viewOf left right relation) (formed left right relation read bytes) (startsNamed left right))
     where
       -- one step after the other
       flat : makeVerdict left right relation output
@@ -63,7 +63,7 @@ module _ (left right relation output : List ℕ) where
 
   -- the causes after each file, and after the room
   abbrev pub afterRoom : List Cause
-  afterRoom = examinationCauses (viewOf left right relation) (startOf left) (startOf right)
+  afterRoom = examinationCauses (viewOf left right relation) (startsNamed left right)
 
   abbrev pub afterRelation : List Cause
   afterRelation = roomCauses (certificateLength (sizesOf left right)) output ++ afterRoom
@@ -82,4 +82,4 @@ module _ (left right relation output : List ℕ) where
       (numbered-append makerNumber (relationCauses 2 (sizesOf left right) relation) afterRelation
       (relation-numbers makerNumber 2 tt (sizesOf left right) relation)
       (numbered-append makerNumber (roomCauses (certificateLength (sizesOf left right)) output) afterRoom (tt, tt)
-      (examination-numbers makerNumber tt (viewOf left right relation) (startOf left) (startOf right)))))
+      (examination-numbers makerNumber tt (viewOf left right relation) (startsNamed left right)))))

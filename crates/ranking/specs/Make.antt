@@ -10,9 +10,9 @@ use Rattle.bisimulation.specs.Maker.{made}
 use Rattle.answers.specs.Numbers.{sixNumbers}
 use Rattle.answers.specs.Verdicts.{Verdict, refusedWith, _andThen_, passed, answerOf, outputAfter}
 use Rattle.answers.specs.declared.Answer.{Answer}
-use Rattle.tables.specs.Table.{startOf}
 use Rattle.certificates.specs.Layout.{sizesOf, certificateLength}
 use Rattle.certificates.specs.CertificateModel.{viewOf}
+use Rattle.starts.specs.StartsNamed.{startsNamed}
 use Rattle.inputs.specs.Inputs.{readVerdict}
 use Rattle.files.specs.File.{certificateFile}
 use Rattle.examination.specs.Examine.{examined}
@@ -23,7 +23,7 @@ roomVerdict L room = cond (ltb room L) (refusedWith (sixNumbers 21 3 L)) passed
 
 -- The verdict where all is read and there is room, and the verdict on whatever is given.
 unfoldable pub madeVerdict : List ℕ → List ℕ → List ℕ → Verdict (Unit {0})
-madeVerdict left right relation = examined (viewOf left right relation) (startOf left) (startOf right)
+madeVerdict left right relation = examined (viewOf left right relation) (startsNamed left right)
 
 unfoldable pub makeVerdict : List ℕ → List ℕ → List ℕ → List ℕ → Verdict (Unit {0})
 makeVerdict left right relation output =

@@ -7,11 +7,11 @@ use lib.Dec.{leb, eqb}
 use lib.ListN.{length}
 use Rattle.answers.specs.Numbers.{sixNumbers}
 use Rattle.answers.specs.Causes.{Cause, _gives_}
-use Rattle.tables.specs.Table.{startOf}
-use Rattle.table_reader.specs.TableCauses.{tableCauses}
+use Rattle.table_reader.specs.TableCauses.{tableCauses, tableNumber}
 use Rattle.certificates.specs.Layout.{sizesOf, certificateLength}
 use Rattle.certificates.specs.CertificateModel.{viewOf}
 use Rattle.certificate_reader.specs.CertificateCauses.{relationCauses}
+use Rattle.starts.specs.StartsNamed.{startsNamed}
 use Rattle.examination.specs.ExaminationCauses.{examinationCauses}
 
 -- 21: the output is under L bytes.
@@ -24,10 +24,10 @@ makerCauses left right relation output =
     ++ (tableCauses 1 right
     ++ (relationCauses 2 (sizesOf left right) relation
     ++ (roomCauses (certificateLength (sizesOf left right)) output
-    ++ examinationCauses (viewOf left right relation) (startOf left) (startOf right))))
+    ++ examinationCauses (viewOf left right relation) (startsNamed left right))))
 
--- Their numbers and files: 1 to 9 and 24 with the file 0 or 1; 15 to 17, 20, 22 and 23 with the file 2; 21 with the file 3.
+-- Their numbers and files: a table's with the file 0 or 1; 15 to 17, 20, 22 and 23 with the file 2; 21 with the file 3.
 abbrev pub makerNumber : (code file : ℕ) → Bool
 makerNumber code file =
-    (((leb 1 code && leb code 9) || eqb code 24) && leb file 1) || (((leb 15 code && leb code 17) || eqb code 20 || eqb code 22 || eqb code 23) && eqb file 2)
+    (tableNumber code && leb file 1) || (((leb 15 code && leb code 17) || eqb code 20 || eqb code 22 || eqb code 23) && eqb file 2)
     || (eqb code 21 && eqb file 3)

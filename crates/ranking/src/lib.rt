@@ -1,6 +1,7 @@
 // The maker: for any byte strings and any output its six numbers and every byte of the output. It reads the files, measures and examines the two sides,
 // and only then fills the output.
 use answers::Answer;
+use answers::Checked;
 use certificates::Sizes;
 use examination::examine;
 use files::fill;
@@ -8,7 +9,6 @@ use inputs::Heads;
 use inputs::Inputs;
 use inputs::read;
 use lengths::measure;
-use obligations::Checked;
 use rank_grids::match_ranks;
 use rank_grids::stutter_ranks;
 use relation_words::column_words;

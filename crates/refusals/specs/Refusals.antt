@@ -1,5 +1,5 @@
--- The six numbers of each refusal of a file (document 01, What is turned away; document 02, Ask 1): code, file, and a the first such step for 8, 9 and 24
--- or the first such row for 15.
+-- The six numbers of each refusal of a file (document 01, What is turned away; document 02, Asks 1 and 5): code, file, and a the first such step for 8, 9
+-- and 24 or the first such row for 15.
 use Prim.Native.Nat.{ℕ}
 use Rattle.answers.specs.declared.Answer.{Answer}
 use Rattle.answers.specs.Numbers.{sixNumbers}
@@ -16,6 +16,7 @@ tableAnswer table.Magic file = sixNumbers 2 file 0
 tableAnswer table.Version file = sixNumbers 3 file 0
 tableAnswer table.States file = sixNumbers 4 file 0
 tableAnswer table.Start file = sixNumbers 5 file 0
+tableAnswer table.Starts file = sixNumbers 28 file 0
 tableAnswer table.Steps file = sixNumbers 6 file 0
 tableAnswer table.Length file = sixNumbers 7 file 0
 tableAnswer (table.StepEnd j) file = sixNumbers 8 file j

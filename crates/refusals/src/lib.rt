@@ -10,6 +10,7 @@ pub enum TableRefusal {
     Version,
     States,
     Start,
+    Starts,
     Steps,
     Length,
     StepEnd(usize),
@@ -46,6 +47,7 @@ impl TableRefusal {
             TableRefusal::Version => 3,
             TableRefusal::States => 4,
             TableRefusal::Start => 5,
+            TableRefusal::Starts => 28,
             TableRefusal::Steps => 6,
             TableRefusal::Length => 7,
             TableRefusal::StepEnd(j) => {

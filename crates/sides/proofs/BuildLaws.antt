@@ -10,7 +10,7 @@ use lib.ListN.{length, getD}
 use Rattle.lists.specs.Lists.{tabulate}
 use Rattle.lists.proofs.FillLaws.{length-tabulate, getD-tabulate, getD-past}
 use Rattle.tables.specs.declared.Head.{Head}
-use Rattle.tables.specs.Table.{labelOf, fromOf, toOf}
+use Rattle.tables.specs.Table.{layoutOf, labelOf, fromOf, toOf}
 use Rattle.sides.specs.Side.{Region, cellAt, relatedPart, enteredPart, firstPart, labelPart, fromPart, toPart, headPart, systemIn}
 use Rattle.sides.specs.Built.{FilledUpTo, SideOf}
 use Rattle.sides.specs.Building.{putAt, apart, sideWords, Empty, StatesIn, EndsIn, Unlinked, LinksIn}
@@ -25,15 +25,15 @@ cond-zero false e = refl
 zeros : (n i : ℕ) → getD (tabulate n (λ _. 0)) i 0 ≡ 0
 zeros n i = elim (decLt i n) [ yes l ↦ getD-tabulate n i (λ _. 0) l | no l ↦ getD-past (tabulate n (λ _. 0)) i (rw length-tabulate (omega arith)) ]
 
-pub record StatesUpTo (labels words : List ℕ) (n : ℕ) (l : List ℕ) : Type 0 where
+pub record StatesUpTo (labels : ℕ → ℕ) (words : List ℕ) (n : ℕ) (l : List ℕ) : Type 0 where
   pub below : n ≤ 64
   pub room : length l ≡ sideWords
   pub related-are : FilledUpTo relatedPart (λ s. getD words s 0) n l
   pub no-first : FilledUpTo firstPart (λ s. 256) n l
-  pub labels-are : FilledUpTo labelPart (labelOf labels) n l
+  pub labels-are : FilledUpTo labelPart labels n l
   pub others : (q : Region) → T (apart relatedPart q) × T (apart firstPart q) × T (apart labelPart q) → Empty q l
 
-pub states-start : (labels words : List ℕ) {l : List ℕ} → l ≡ tabulate 1088 (λ _. 0) → StatesUpTo labels words 0 l
+pub states-start : (labels : ℕ → ℕ) (words : List ℕ) {l : List ℕ} → l ≡ tabulate 1088 (λ _. 0) → StatesUpTo labels words 0 l
 unfolding cellAt
 states-start labels words {l} e =
     record {
@@ -48,8 +48,8 @@ states-start labels words {l} e =
     none : (q : Region) → Empty q l
     none q = record { zeros-are = λ i. cond-zero (ltb i (q .size)) (ap (λ (x : List ℕ). getD x (q .base + i) 0) e ∙ zeros 1088 (q .base + i)) }
 
-pub states-more : {labels words : List ℕ} {n : ℕ} {l : List ℕ} (word label : ℕ) → StatesUpTo labels words n l → n < 64 → word ≡ getD words n 0
-    → label ≡ labelOf labels n
+pub states-more : {labels : ℕ → ℕ} {words : List ℕ} {n : ℕ} {l : List ℕ} (word label : ℕ) → StatesUpTo labels words n l → n < 64
+    → word ≡ getD words n 0 → label ≡ labels n
     → StatesUpTo labels words (n + 1) (putAt labelPart (putAt firstPart (putAt relatedPart l n word) n 256) n label)
 states-more {labels} {words} {n} {l} word label w h e f =
     let l1 = putAt relatedPart l n word in
@@ -72,58 +72,75 @@ states-more {labels} {words} {n} {l} word label w h e f =
       };
     }
 
-pub states-next : {labels words : List ℕ} {n : ℕ} {l l1 l2 l3 : List ℕ} {word label : ℕ} → StatesUpTo labels words n l → n < 64 → word ≡ getD words n 0
-    → label ≡ labelOf labels n
+pub states-next : {labels : ℕ → ℕ} {words : List ℕ} {n : ℕ} {l l1 l2 l3 : List ℕ} {word label : ℕ} → StatesUpTo labels words n l → n < 64
+    → word ≡ getD words n 0 → label ≡ labels n
     → l1 ≡ putAt relatedPart l n word → l2 ≡ putAt firstPart l1 n 256 → l3 ≡ putAt labelPart l2 n label → StatesUpTo labels words (n + 1) l3
 states-next {word = word} {label = label} w h e f p q r = rw (r, q, p) (states-more word label w h e f)
 
 -- and the header
-pub states-end : {labels words l : List ℕ} {n : ℕ} (h : Head) → StatesUpTo labels words n l → 64 ≤ n
-    → StatesIn h labels words (putAt headPart (putAt headPart (putAt headPart l 0 (h .states)) 1 (h .steps)) 2 (h .initial .0))
-states-end {labels} {words} {l} {n} h w b =
-    let l1 = putAt headPart l 0 (h .states) in
-    let l2 = putAt headPart l1 1 (h .steps) in
-    let e : n ≡ 64 = let c = w .below in omega arith in
-    let r = w .room in
-    let r1 : length l1 ≡ sideWords = put-length headPart l 0 (h .states) ∙ r in
-    let r2 : length l2 ≡ sideWords = put-length headPart l1 1 (h .steps) ∙ r1 in
-    record {
-      room = put-length headPart l2 2 (h .initial .0) ∙ r2;
-      states-is = put-other headPart l2 2 (h .initial .0) 0 (λ z. omega arith) ∙ put-other headPart l1 1 (h .steps) 0 (λ z. omega arith)
-          ∙ put-same headPart l 0 (h .states) (omega arith) (omega arith);
-      steps-is = put-other headPart l2 2 (h .initial .0) 1 (λ z. omega arith) ∙ put-same headPart l1 1 (h .steps) (omega arith) (omega arith);
-      initial-is = put-same headPart l2 2 (h .initial .0) (omega arith) (omega arith);
-      related-are = on relatedPart tt (rw e at (w .related-are));
-      labels-are = on labelPart tt (rw e at (w .labels-are));
-      no-first = on firstPart tt (rw e at (w .no-first));
-      no-entered = off enteredPart tt (tt, tt, tt);
-      no-from = off fromPart tt (tt, tt, tt);
-      no-to = off toPart tt (tt, tt, tt);
-    }
-  where
-    on : (q : Region) {f : ℕ → ℕ} {n : ℕ} → T (apart headPart q) → FilledUpTo q f n l
-        → FilledUpTo q f n (putAt headPart (putAt headPart (putAt headPart l 0 (h .states)) 1 (h .steps)) 2 (h .initial .0))
-    on q a v = fill-apart headPart _ 2 _ q a (fill-apart headPart _ 1 _ q a (fill-apart headPart _ 0 _ q a v))
+module _ {words l : List ℕ} {n : ℕ} (h : Head) (labels : List ℕ) (word : ℕ) (w : StatesUpTo (labelOf (h .format) labels) words n l) (b : 64 ≤ n)
+    (ew : word ≡ cond (layoutOf (h .format) .word) 1 0) where
+  -- the words once the header is there
+  abbrev l1 : List ℕ
+  l1 = putAt headPart l 0 (h .states)
 
-    off : (q : Region) → T (apart headPart q) → T (apart relatedPart q) × T (apart firstPart q) × T (apart labelPart q)
-        → Empty q (putAt headPart (putAt headPart (putAt headPart l 0 (h .states)) 1 (h .steps)) 2 (h .initial .0))
-    off q a o = record {
-      zeros-are = λ i. put-apart headPart _ 2 _ q a i ∙ put-apart headPart _ 1 _ q a i ∙ put-apart headPart _ 0 _ q a i
-          ∙ w .others q o .zeros-are i;
-    }
+  abbrev l2 : List ℕ
+  l2 = putAt headPart l1 1 (h .steps)
 
-pub states-last : {labels words : List ℕ} {n : ℕ} {l l1 l2 l3 : List ℕ} (h : Head) → StatesUpTo labels words n l → 64 ≤ n
-    → l1 ≡ putAt headPart l 0 (h .states) → l2 ≡ putAt headPart l1 1 (h .steps) → l3 ≡ putAt headPart l2 2 (h .initial .0) → StatesIn h labels words l3
-states-last h w b p q r = rw (r, q, p) (states-end h w b)
+  abbrev l3 : List ℕ
+  l3 = putAt headPart l2 2 (h .initial .0)
+
+  abbrev l4 : List ℕ
+  l4 = putAt headPart l3 3 word
+
+  on : (q : Region) {f : ℕ → ℕ} {n : ℕ} → T (apart headPart q) → FilledUpTo q f n l → FilledUpTo q f n l4
+  on q a v =
+      fill-apart headPart l3 3 word q a
+      (fill-apart headPart l2 2 (h .initial .0) q a (fill-apart headPart l1 1 (h .steps) q a (fill-apart headPart l 0 (h .states) q a v)))
+
+  off : (q : Region) → T (apart headPart q) → T (apart relatedPart q) × T (apart firstPart q) × T (apart labelPart q) → Empty q l4
+  off q a o = record {
+    zeros-are = λ i. put-apart headPart l3 3 word q a i ∙ put-apart headPart l2 2 (h .initial .0) q a i ∙ put-apart headPart l1 1 (h .steps) q a i
+        ∙ put-apart headPart l 0 (h .states) q a i ∙ w .others q o .zeros-are i;
+  }
+
+  states-end : StatesIn h labels words l4
+  states-end =
+      let e : n ≡ 64 = let c = w .below in omega arith in
+      let r = w .room in
+      let r1 : length l1 ≡ sideWords = put-length headPart l 0 (h .states) ∙ r in
+      let r2 : length l2 ≡ sideWords = put-length headPart l1 1 (h .steps) ∙ r1 in
+      let r3 : length l3 ≡ sideWords = put-length headPart l2 2 (h .initial .0) ∙ r2 in
+      record {
+        room = put-length headPart l3 3 word ∙ r3;
+        states-is = put-other headPart l3 3 word 0 (λ z. omega arith) ∙ put-other headPart l2 2 (h .initial .0) 0 (λ z. omega arith)
+            ∙ put-other headPart l1 1 (h .steps) 0 (λ z. omega arith) ∙ put-same headPart l 0 (h .states) (omega arith) (omega arith);
+        steps-is = put-other headPart l3 3 word 1 (λ z. omega arith) ∙ put-other headPart l2 2 (h .initial .0) 1 (λ z. omega arith)
+            ∙ put-same headPart l1 1 (h .steps) (omega arith) (omega arith);
+        initial-is = put-other headPart l3 3 word 2 (λ z. omega arith) ∙ put-same headPart l2 2 (h .initial .0) (omega arith) (omega arith);
+        word-is = put-same headPart l3 3 word (omega arith) (omega arith) ∙ ew;
+        related-are = on relatedPart tt (rw e at (w .related-are));
+        labels-are = on labelPart tt (rw e at (w .labels-are));
+        no-first = on firstPart tt (rw e at (w .no-first));
+        no-entered = off enteredPart tt (tt, tt, tt);
+        no-from = off fromPart tt (tt, tt, tt);
+        no-to = off toPart tt (tt, tt, tt);
+      }
+
+pub states-last : {words : List ℕ} {n word : ℕ} {k1 k2 k3 k4 l : List ℕ} (h : Head) (labels : List ℕ)
+    → StatesUpTo (labelOf (h .format) labels) words n l → 64 ≤ n → word ≡ cond (layoutOf (h .format) .word) 1 0
+    → k1 ≡ putAt headPart l 0 (h .states) → k2 ≡ putAt headPart k1 1 (h .steps) → k3 ≡ putAt headPart k2 2 (h .initial .0)
+    → k4 ≡ putAt headPart k3 3 word → StatesIn h labels words k4
+states-last {word = word} h labels w b e p q r s = rw (s, r, q, p) (states-end h labels word w b e)
 
 -- ---- the ends of the steps
 
-pub ends-start : {l : List ℕ} (steps : List ℕ) → length l ≡ sideWords → Empty fromPart l → Empty toPart l → EndsIn steps l 0 l
-ends-start steps r f t = record { kept = kept-none r; from-are = fill-none fromPart _ f; to-are = fill-none toPart _ t }
+pub ends-start : {l : List ℕ} (from to : ℕ → ℕ) → length l ≡ sideWords → Empty fromPart l → Empty toPart l → EndsIn from to l 0 l
+ends-start from to r f t = record { kept = kept-none r; from-are = fill-none fromPart _ f; to-are = fill-none toPart _ t }
 
-pub ends-more : {steps before l : List ℕ} {j : ℕ} (x y : ℕ) → EndsIn steps before j l → j < 256 → x ≡ fromOf steps j → y ≡ toOf steps j
-    → EndsIn steps before (j + 1) (putAt toPart (putAt fromPart l j x) j y)
-ends-more {steps} {before} {l} {j} x y w h e f =
+pub ends-more : {from to : ℕ → ℕ} {before l : List ℕ} {j : ℕ} (x y : ℕ) → EndsIn from to before j l → j < 256 → x ≡ from j → y ≡ to j
+    → EndsIn from to before (j + 1) (putAt toPart (putAt fromPart l j x) j y)
+ends-more {l = l} {j = j} x y w h e f =
     let l1 = putAt fromPart l j x in
     let r = w .kept .room in
     let k1 = kept-more fromPart l j x (λ q o. o .0) (w .kept) in
@@ -134,8 +151,8 @@ ends-more {steps} {before} {l} {j} x y w h e f =
       to-are = fill-more toPart y (fill-apart fromPart l j x toPart tt (w .to-are)) h (omega arith) f;
     }
 
-pub ends-next : {steps before l l1 l2 : List ℕ} {j x y : ℕ} → EndsIn steps before j l → j < 256 → x ≡ fromOf steps j → y ≡ toOf steps j
-    → l1 ≡ putAt fromPart l j x → l2 ≡ putAt toPart l1 j y → EndsIn steps before (j + 1) l2
+pub ends-next : {from to : ℕ → ℕ} {before l l1 l2 : List ℕ} {j x y : ℕ} → EndsIn from to before j l → j < 256 → x ≡ from j → y ≡ to j
+    → l1 ≡ putAt fromPart l j x → l2 ≡ putAt toPart l1 j y → EndsIn from to before (j + 1) l2
 ends-next {x = x} {y = y} w h e f p q = rw (q, p) (ends-more x y w h e f)
 
 -- ---- the whole
@@ -148,12 +165,13 @@ same-system : (l k : List ℕ) → cellAt headPart l 0 ≡ cellAt headPart k 0 �
 same-system l k n m i label from to = rw (n, m, i, fun-ext label, fun-ext from, fun-ext to)
 
 -- as many steps as the side says
-pub ends-count : {h : Head} {labels steps words states ends : List ℕ} {m : ℕ} → StatesIn h labels words states → EndsIn steps states m ends
-    → m ≡ min (h .steps) 256 → m ≡ systemIn ends .steps
+pub ends-count : {h : Head} {from to : ℕ → ℕ} {labels words states ends : List ℕ} {m : ℕ} → StatesIn h labels words states
+    → EndsIn from to states m ends → m ≡ min (h .steps) 256 → m ≡ systemIn ends .steps
 ends-count a b e = e ∙ ap (λ (x : ℕ). min x 256) (sym (b .kept .same headPart (tt, tt) 1 ∙ a .steps-is))
 
 -- the ends are there, and no link yet
-pub unlinked : {h : Head} {labels steps words states ends : List ℕ} {m : ℕ} → StatesIn h labels words states → EndsIn steps states m ends → Unlinked ends
+pub unlinked : {h : Head} {from to : ℕ → ℕ} {labels words states ends : List ℕ} {m : ℕ} → StatesIn h labels words states
+    → EndsIn from to states m ends → Unlinked ends
 unlinked a b =
     let kept = b .kept in
     record {
@@ -163,7 +181,7 @@ unlinked a b =
     }
 
 pub side-is : {h : Head} {labels steps words states ends side : List ℕ} {m : ℕ} → m ≡ min (h .steps) 256 → StatesIn h labels words states
-    → EndsIn steps states m ends
+    → EndsIn (fromOf (h .format) steps) (toOf (h .format) steps) states m ends
     → LinksIn ends 0 side → SideOf h labels steps words side
 side-is {h} {labels} {steps} {words} {states} {ends} {side} e a b l =
     let k = l .kept .same in
@@ -172,6 +190,7 @@ side-is {h} {labels} {steps} {words} {states} {ends} {side} e a b l =
       states-is = k headPart (tt, tt, tt) 0 ∙ n headPart (tt, tt) 0 ∙ a .states-is;
       steps-is = k headPart (tt, tt, tt) 1 ∙ n headPart (tt, tt) 1 ∙ a .steps-is;
       initial-is = k headPart (tt, tt, tt) 2 ∙ n headPart (tt, tt) 2 ∙ a .initial-is;
+      word-is = k headPart (tt, tt, tt) 3 ∙ n headPart (tt, tt) 3 ∙ a .word-is;
       related-are = record { words-are = λ s. k relatedPart (tt, tt, tt) s ∙ n relatedPart (tt, tt) s ∙ a .related-are .words-are s };
       labels-are = record { words-are = λ s. k labelPart (tt, tt, tt) s ∙ n labelPart (tt, tt) s ∙ a .labels-are .words-are s };
       from-are = record { words-are = λ j. k fromPart (tt, tt, tt) j ∙ rw (← e) (b .from-are .words-are j) };

@@ -1,25 +1,27 @@
 -- The one way from bytes to the theory: two sides that are built of two tables that are read, and of a relation's rows, hold the view that the bytes give,
 -- whichever side is seen first; and their steps are linked. Assumes nothing.
-use Prim.Native.Nat.{_≤_, ℕ, _+_, _*_, _<_, min}
-use mathlib.Core.Path.{_≡_, sym, ap, ap₂, _∙_, subst, fun-ext}
-use mathlib.Core.Bool.{Bool, true}
+use Prim.Native.Nat.{ℕ, _*_, _≤_, _<_, min}
+use mathlib.Core.Path.{_≡_, refl, sym, ap, ap₂, _∙_, subst, fun-ext}
+use mathlib.Core.Bool.{Bool, true, false, cond}
 use mathlib.Core.List.{List}
-use native.Mathlib.Nat.{min-eq-left}
+use native.Mathlib.Nat.{min-eq-left, mul-le-mul-right}
 use native.Mathlib.Omega.{arith}
+use lib.Dec.{eqb}
 use lib.ListN.{length, getD}
-use Rattle.lists.specs.Numbers.{bigEndian}
 use Rattle.lists.proofs.FillLaws.{getD-past}
+use Rattle.lists.proofs.NumberLaws.{big-past}
 use Rattle.words.specs.Bits.{hasBit, firstBit}
 use Rattle.bisimulation.specs.Systems.{System, View, Plain, flip}
+use Rattle.tables.specs.declared.Format.{Format}
 use Rattle.tables.specs.declared.Head.{Head}
-use Rattle.tables.specs.Table.{statesOf, stepsOf, startOf, labelsPart, stepsPart, labelOf, fromOf, toOf}
+use Rattle.tables.specs.Table.{layoutOf, formatIn, layoutIn, statesOf, stepsOf, startWord, startOf, labelsPart, stepsPart, labelOf, fromOf, toOf, fromIn, toIn}
 use Rattle.tables.specs.Model.{systemOf}
 use Rattle.table_reader.specs.declared.TableRead.the-variants.{Good}
 use Rattle.table_reader.specs.TableReading.{readTable}
 use Rattle.table_reader.proofs.TableLaws.{table-ok, labels-length, steps-length, table-formed, start-first}
 use Rattle.certificates.specs.CertificateModel.{AreBytes, viewOf}
 use Rattle.relation_words.specs.Relation.{rowWords, columnWords}
-use Rattle.sides.specs.Side.{cellAt, relatedPart, labelPart, fromPart, toPart, systemIn, startIn, relatedTo}
+use Rattle.sides.specs.Side.{cellAt, relatedPart, labelPart, fromPart, toPart, systemIn, startIn, startWordIn, relatedTo}
 use Rattle.sides.specs.Built.{SideOf, Linked}
 use Rattle.sides.specs.Views.{viewIn}
 use Rattle.relation_words.proofs.RelationLaws.{rows-length, rows-related, columns-length, columns-flipped}
@@ -43,20 +45,28 @@ module _ (s : List ℕ) {h : Head} {words side : List ℕ} (good : readTable s �
   steps-are : min (h .steps) 256 ≡ stepsOf s
   steps-are = let o = table-ok s good in rw (o .steps-is) (min-eq-left (o .steps-le))
 
-  labels-are : (x : ℕ) → cellAt labelPart side x ≡ labelOf (labelsPart s) x
-  unfolding labelOf bigEndian
-  labels-are x =
-      let n = labels-length s good in
+  -- past the last label and past the last step stand zeros
+  labels-past : (x : ℕ) → 64 ≤ x → length (labelsPart s) ≤ x * layoutIn s .label
+  labels-past x z =
       let o = table-ok s good .states-le in
-      filled labelPart (a .labels-are) x (λ z. rw (getD-past (labelsPart s) (x * 2 + 0) (omega arith), getD-past (labelsPart s) (x * 2 + 1) (omega arith)))
+      rw (labels-length s good) (mul-le-mul-right (layoutIn s .label) (let l : statesOf s ≤ x = omega arith in l))
 
-  from-are : (j : ℕ) → cellAt fromPart side j ≡ fromOf (stepsPart s) j
+  steps-past : (j : ℕ) → min (h .steps) 256 ≤ j → length (stepsPart s) ≤ j * layoutIn s .step
+  steps-past j z = rw (steps-length s good) (mul-le-mul-right (layoutIn s .step) (rw (← steps-are) z))
+
+  labels-are : (x : ℕ) → cellAt labelPart side x ≡ labelOf (formatIn s) (labelsPart s) x
+  unfolding labelOf
+  labels-are x =
+      filled labelPart (rw (table-ok s good .format-is) at (a .labels-are)) x (λ z. big-past (labelsPart s) _ _ (labels-past x z))
+
+  from-are : (j : ℕ) → cellAt fromPart side j ≡ fromIn s j
   unfolding fromOf
-  from-are j = let n = steps-length s good in let m = steps-are in filled fromPart (a .from-are) j (λ z. getD-past (stepsPart s) (j * 2) (omega arith))
+  from-are j = filled fromPart (rw (table-ok s good .format-is) at (a .from-are)) j (λ z. getD-past (stepsPart s) _ (steps-past j z))
 
-  to-are : (j : ℕ) → cellAt toPart side j ≡ toOf (stepsPart s) j
+  to-are : (j : ℕ) → cellAt toPart side j ≡ toIn s j
   unfolding toOf
-  to-are j = let n = steps-length s good in let m = steps-are in filled toPart (a .to-are) j (λ z. getD-past (stepsPart s) (j * 2 + 1) (omega arith))
+  to-are j =
+      filled toPart (rw (table-ok s good .format-is) at (a .to-are)) j (λ z. let l = steps-past j z in getD-past (stepsPart s) _ (omega arith))
 
   -- the system that the side holds is the one that the bytes give
   pub system-is : systemIn side ≡ systemOf s
@@ -69,9 +79,19 @@ module _ (s : List ℕ) {h : Head} {words side : List ℕ} (good : readTable s �
   unfolding systemOf
   below {x} l = let n = table-ok s good .states-le in omega arith
 
-  -- so is its start
-  pub start-is : startIn side ≡ startOf s
-  start-is = ap firstBit (a .initial-is) ∙ start-first s good
+  -- so is whether it has a start word
+  pub start-word-is : startWordIn side ≡ startWord s
+  unfolding startWord
+  start-word-is =
+      ap (λ (x : ℕ). eqb x 1) (a .word-is) ∙ told (layoutOf (h .format) .word) ∙ ap (λ (f : Format). layoutOf f .word) (table-ok s good .format-is)
+    where
+      told : (b : Bool) → eqb (cond b 1 0) 1 ≡ b
+      told true = refl
+      told false = refl
+
+  -- and its start, where it has none
+  pub start-is : startWord s ≡ false → startIn side ≡ startOf s
+  start-is e = ap firstBit (a .initial-is) ∙ start-first s good e
 
   -- and the links
   pub side-linked : Linked side

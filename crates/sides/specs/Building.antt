@@ -5,7 +5,7 @@ use mathlib.Core.Bool.{Bool, cond, _||_}
 use mathlib.Core.List.{List}
 use lib.Dec.{T, leb, ltb}
 use lib.ListN.{length, getD, set}
-use Rattle.tables.specs.Table.{maxStates, maxSteps, labelOf, fromOf, toOf}
+use Rattle.tables.specs.Table.{maxStates, maxSteps, layoutOf, labelOf}
 use Rattle.tables.specs.declared.Head.{Head}
 use Rattle.sides.specs.Built.{FilledUpTo, LinkedFrom}
 use Rattle.sides.specs.Side.{Region, cellAt, headPart, relatedPart, enteredPart, firstPart, labelPart, nextPart, fromPart, toPart, systemIn}
@@ -41,8 +41,9 @@ pub record StatesIn (h : Head) (labels words side : List ℕ) : Type 0 where
   pub states-is : cellAt headPart side 0 ≡ h .states
   pub steps-is : cellAt headPart side 1 ≡ h .steps
   pub initial-is : cellAt headPart side 2 ≡ h .initial .0
+  pub word-is : cellAt headPart side 3 ≡ cond (layoutOf (h .format) .word) 1 0
   pub related-are : FilledUpTo relatedPart (λ s. getD words s 0) maxStates side
-  pub labels-are : FilledUpTo labelPart (labelOf labels) maxStates side
+  pub labels-are : FilledUpTo labelPart (labelOf (h .format) labels) maxStates side
   pub no-first : FilledUpTo firstPart (λ s. maxSteps) maxStates side
   pub no-entered : Empty enteredPart side
   pub no-from : Empty fromPart side
@@ -52,10 +53,10 @@ pub record StatesIn (h : Head) (labels words side : List ℕ) : Type 0 where
 abbrev pub notEnds : Region → Type 0
 notEnds q = T (apart fromPart q) × T (apart toPart q)
 
-pub record EndsIn (steps before : List ℕ) (m : ℕ) (side : List ℕ) : Type 0 where
+pub record EndsIn (from to : ℕ → ℕ) (before : List ℕ) (m : ℕ) (side : List ℕ) : Type 0 where
   pub kept : Kept notEnds before side
-  pub from-are : FilledUpTo fromPart (fromOf steps) m side
-  pub to-are : FilledUpTo toPart (toOf steps) m side
+  pub from-are : FilledUpTo fromPart from m side
+  pub to-are : FilledUpTo toPart to m side
 
 -- So are the links.
 abbrev pub notLinks : Region → Type 0

@@ -8,7 +8,7 @@ use lib.ListN.{getD}
 use Rattle.lists.specs.Below.{anyBelow}
 use Rattle.words.specs.Bits.{hasBit}
 use Rattle.bisimulation.specs.Systems.{System, stepsFrom}
-use Rattle.tables.specs.Table.{maxStates, maxSteps, labelOf, fromOf, toOf}
+use Rattle.tables.specs.Table.{maxStates, maxSteps, layoutOf, labelOf, fromOf, toOf}
 use Rattle.tables.specs.declared.Head.{Head}
 use Rattle.sides.specs.Side.{Region, cellAt, headPart, relatedPart, enteredPart, firstPart, labelPart, nextPart, fromPart, toPart, systemIn}
 use Rattle.sides.specs.Side.{enteredFrom, stepsIn}
@@ -38,10 +38,11 @@ pub record SideOf (h : Head) (labels steps words side : List ℕ) : Type 0 where
   pub states-is : cellAt headPart side 0 ≡ h .states
   pub steps-is : cellAt headPart side 1 ≡ h .steps
   pub initial-is : cellAt headPart side 2 ≡ h .initial .0
+  pub word-is : cellAt headPart side 3 ≡ cond (layoutOf (h .format) .word) 1 0
   pub related-are : FilledUpTo relatedPart (λ s. getD words s 0) maxStates side
-  pub labels-are : FilledUpTo labelPart (labelOf labels) maxStates side
-  pub from-are : FilledUpTo fromPart (fromOf steps) (min (h .steps) maxSteps) side
-  pub to-are : FilledUpTo toPart (toOf steps) (min (h .steps) maxSteps) side
+  pub labels-are : FilledUpTo labelPart (labelOf (h .format) labels) maxStates side
+  pub from-are : FilledUpTo fromPart (fromOf (h .format) steps) (min (h .steps) maxSteps) side
+  pub to-are : FilledUpTo toPart (toOf (h .format) steps) (min (h .steps) maxSteps) side
   pub linked : LinkedFrom (systemIn side) 0 side
 
 -- What the side of a table that is read is besides its system: the ends of its steps are below 64, its links lead along the steps from each state in

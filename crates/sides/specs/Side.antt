@@ -1,9 +1,9 @@
 -- One side of two tables as words: the table's header, labels and steps, the states related to each own state, and the steps linked by the state that
 -- they leave. Everything is read off by a total accessor.
 use Prim.Native.Nat.{ℕ, zero, suc, _+_, min}
-use mathlib.Core.Bool.{true, cond}
+use mathlib.Core.Bool.{Bool, true, cond}
 use mathlib.Core.List.{List, [], _∷_}
-use lib.Dec.{ltb}
+use lib.Dec.{ltb, eqb}
 use lib.ListN.{getD}
 use Rattle.words.specs.Bits.{hasBit, firstBit}
 use Rattle.bisimulation.specs.Systems.{System}
@@ -20,7 +20,7 @@ pub record Region : Type 0 where
 unfoldable pub cellAt : Region → List ℕ → ℕ → ℕ
 cellAt r side i = cond (ltb i (r .size)) (getD side (r .base + i) 0) 0
 
--- The number of states, the number of steps, and the word of initial states.
+-- The number of states, the number of steps, the word of initial states, and 1 where the table has a start word, 0 where it has none.
 abbrev pub headPart : Region
 headPart = record { base = 0; size = maxStates }
 
@@ -65,6 +65,10 @@ systemIn side =
 -- The start: the smallest initial state, and 64 where there is none.
 abbrev pub startIn : List ℕ → ℕ
 startIn side = firstBit (cellAt headPart side 2)
+
+-- Whether the table has a start word.
+abbrev pub startWordIn : List ℕ → Bool
+startWordIn side = eqb (cellAt headPart side 3) 1
 
 -- The words of the states related to s, and of the states that steps from s enter.
 abbrev pub relatedTo : List ℕ → ℕ → ℕ

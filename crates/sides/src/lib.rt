@@ -1,11 +1,14 @@
 // The one form in which two read tables and a relation are handed on. The relation is a word for each state: the states related to it. A side is all
 // that is asked of one table and of the relation, worked out once a call: every fact of a state or of a step is one read, and the steps from a state
 // are linked in their order.
+use tables::Format;
 use tables::Head;
 use words::Row;
 ghost use mathlib.Core.Path.{_≡_};
+ghost use mathlib.Core.Bool.{cond};
 ghost use Prim.Native.Nat.{_+_, _^_, _≤_, _<_, min};
-ghost use Rattle.sides.specs.Side.{cellAt, headPart, systemIn, relatedTo, enteredFrom, firstStep, linkAt};
+ghost use Rattle.tables.specs.Table.{layoutOf};
+ghost use Rattle.sides.specs.Side.{cellAt, headPart, systemIn, startWordIn, relatedTo, enteredFrom, firstStep, linkAt};
 ghost use Rattle.sides.specs.Built.{SideOf};
 ghost use Rattle.sides.specs.Building.{putAt};
 
@@ -80,9 +83,17 @@ pub fn step_count(side: &Side) -> usize
 
 // The initial states.
 pub fn initial(side: &Side) -> Row
-    ensures { λ r. ⌜ r .0 ≡ cellAt headPart (now (side .entry)) 2 ⌝ }
+    ensures value { λ r. ⌜ r .0 ≡ cellAt headPart (now (side .entry)) 2 ⌝ }
+    ensures small { λ r. ⌜ r .0 < 2 ^ 64 ⌝ }
 {
     Row(cell(side, HEAD, Head::MAX_STATES, 2))
+}
+
+// Whether the table has a start word.
+pub fn has_start_word(side: &Side) -> bool
+    ensures { λ r. ⌜ r ≡ startWordIn (now (side .entry)) ⌝ }
+{
+    cell(side, HEAD, Head::MAX_STATES, 3) == 1
 }
 
 // The states of the other side that are related to s.
@@ -152,10 +163,19 @@ fn put(side: &mut Side, base: usize, size: usize, i: usize, x: u64)
     }
 }
 
+// 1 where a table of this format has a start word, 0 where it has none.
+fn start_word(format: Format) -> u64
+    ensures { λ r. ⌜ r ≡ cond (layoutOf format .word) 1 0 ⌝ }
+{
+    let layout = format.layout();
+    if layout.word { 1 } else { 0 }
+}
+
 // The side of a table, from its header and the parts that hold its labels and its steps, with the states related to each of its states.
 pub fn side_of(head: Head, labels: &[u8], steps: &[u8], words: &[u64; Head::MAX_STATES]) -> Side
     ensures { λ r. ⌜ SideOf head (now (labels .entry)) (now (steps .entry)) (now (words .entry)) r ⌝ }
 {
+    let format = head.format;
     // The states related to each state and its label, and no step yet.
     let mut side: Side = [0; 5 * Head::MAX_STATES + 3 * Head::MAX_STEPS];
     let mut s: usize = 0;
@@ -173,13 +193,14 @@ pub fn side_of(head: Head, labels: &[u8], steps: &[u8], words: &[u64; Head::MAX_
             LABEL,
             Head::MAX_STATES,
             s,
-            tables::label(labels, s),
+            tables::label(labels, format, s),
         );
         s += 1;
     }
     put(&mut side, HEAD, Head::MAX_STATES, 0, head.states as u64);
     put(&mut side, HEAD, Head::MAX_STATES, 1, head.steps as u64);
     put(&mut side, HEAD, Head::MAX_STATES, 2, head.initial.0);
+    put(&mut side, HEAD, Head::MAX_STATES, 3, start_word(format));
     // The ends of the steps.
     let m = at_most(head.steps, Head::MAX_STEPS);
     let mut j: usize = 0;
@@ -189,14 +210,14 @@ pub fn side_of(head: Head, labels: &[u8], steps: &[u8], words: &[u64; Head::MAX_
             FROM,
             Head::MAX_STEPS,
             j,
-            tables::from(steps, j) as u64,
+            tables::from(steps, format, j) as u64,
         );
         put(
             &mut side,
             TO,
             Head::MAX_STEPS,
             j,
-            tables::to(steps, j) as u64,
+            tables::to(steps, format, j) as u64,
         );
         j += 1;
     }

@@ -9,9 +9,9 @@ use native.Mathlib.Decide.{decLt}
 use Rattle.answers.specs.Numbers.{sixNumbers}
 use Rattle.answers.specs.Causes.{only, NoCause}
 use Rattle.answers.proofs.CauseLaws.{append-none, below-none, none-only}
-use Rattle.answers.proofs.DecideLaws.{decides-stable, decides-either, eqb-decides}
-use Rattle.tables.specs.Table.{versionOf, stepsOf, stepsPart}
-use Rattle.table_reader.specs.TableCauses.{Greater, NotGreater, EqualsEarlier, InAnyOrder, doubledCauses, notGreaterCauses, orderCauses}
+use Rattle.answers.proofs.DecideLaws.{decides-stable, decides-either, test-decides}
+use Rattle.tables.specs.Table.{formatIn, layoutIn, stepsOf, stepsPart}
+use Rattle.table_reader.specs.TableCauses.{Greater, NotGreater, EqualsEarlier, StepsRise, doubledCauses, notGreaterCauses, orderCauses}
 use Rattle.table_reader.proofs.TestLaws.{greater-decides}
 
 module _ (s : List ℕ) where
@@ -26,7 +26,7 @@ module _ (s : List ℕ) where
     pub rising-greater : (i j : ℕ) → i < j → j < m → Greater s j i
     rising-greater i zero a l = absurd (not-suc-le-zero a)
     rising-greater i (suc j) a l =
-        let next : Greater s (suc j) j = decides-stable (greater-decides (stepsPart s) (suc j) j) (rising (suc j) l) in
+        let next : Greater s (suc j) j = decides-stable (greater-decides (formatIn s) (stepsPart s) (suc j) j) (rising (suc j) l) in
         elim (decLt i j) [
           | yes b ↦ greater-trans i j (suc j) (rising-greater i j b (omega arith)) next
           | no b ↦ subst (λ (k : ℕ). Greater s (suc j) k) (omega arith) next
@@ -37,17 +37,17 @@ module _ (s : List ℕ) where
     rising-once j l (i, a, p, q) = ⊎-elim (λ h. omega arith) (λ h. omega arith) (rising-greater i j a l)
 
   module _ (none : NoCause (orderCauses 0 s)) where
-    parts : NoCause (only (InAnyOrder s) (doubledCauses 0 s)) × NoCause (only (¬ InAnyOrder s) (notGreaterCauses 0 s))
-    parts = append-none (only (InAnyOrder s) (doubledCauses 0 s)) (only (¬ InAnyOrder s) (notGreaterCauses 0 s)) none
+    parts : NoCause (only (StepsRise s) (notGreaterCauses 0 s)) × NoCause (only (¬ StepsRise s) (doubledCauses 0 s))
+    parts = append-none (only (StepsRise s) (notGreaterCauses 0 s)) (only (¬ StepsRise s) (doubledCauses 0 s)) none
 
-    -- where the steps may not stand in any order they rise
-    pub steps-rise : ¬ InAnyOrder s → (j : ℕ) → j < stepsOf s → ¬ NotGreater s j
-    steps-rise v = below-none (stepsOf s) (NotGreater s) (sixNumbers 24 0) (none-only (¬ InAnyOrder s) (notGreaterCauses 0 s) v (parts .1))
+    -- where the steps rise, each is greater than the one before it
+    pub steps-rise : StepsRise s → (j : ℕ) → j < stepsOf s → ¬ NotGreater s j
+    steps-rise v = below-none (stepsOf s) (NotGreater s) (sixNumbers 24 0) (none-only (StepsRise s) (notGreaterCauses 0 s) v (parts .0))
 
     -- no step stands twice, whichever the version
     pub steps-once : (j : ℕ) → j < stepsOf s → ¬ EqualsEarlier s j
     steps-once =
         ⊎-elim
-        (λ v. below-none (stepsOf s) (EqualsEarlier s) (sixNumbers 9 0) (none-only (InAnyOrder s) (doubledCauses 0 s) v (parts .0)))
         (λ v. rising-once (stepsOf s) (steps-rise v))
-        (decides-either (eqb-decides (versionOf s) 1))
+        (λ v. below-none (stepsOf s) (EqualsEarlier s) (sixNumbers 9 0) (none-only (¬ StepsRise s) (doubledCauses 0 s) v (parts .1)))
+        (decides-either (test-decides (layoutIn s .rising)))

@@ -13,6 +13,7 @@ use Rattle.lists.proofs.BoolLaws.{or-e, or-l, or-r, eq→eqb, false-not-T, same
 use Rattle.words.specs.Bits.{hasBit, addBit}
 use Rattle.words.specs.declared.Row.{Row}
 use Rattle.words.proofs.BitLaws.{has-empty, has-add-below}
+use Rattle.tables.specs.declared.Format.{Format}
 use Rattle.tables.specs.Table.{fromOf, toOf}
 use Rattle.table_reader.specs.TableReading.{doubled}
 use Rattle.table_reader.specs.EndsSeen.{wordOf, StepSoFar, EndsSeen}
@@ -69,9 +70,10 @@ module _ (from to : ℕ → ℕ) where
         }
 
 -- the bit tells whether the next step equals an earlier one
-pub seen-doubled : (steps : List ℕ) (j : ℕ) {seen : List Row} → EndsSeen (fromOf steps) (toOf steps) j seen
-    → {s u : ℕ} → s ≡ fromOf steps j → u ≡ toOf steps j → s < 64 → doubled steps j ≡ hasBit (wordOf seen s) u
-seen-doubled steps j {seen} w {s} {u} es eu h =
-    let bit : T (hasBit (wordOf seen s) u) ↔ StepSoFar (fromOf steps) (toOf steps) j (fromOf steps j) (toOf steps j) = rw (← es, ← eu) (w .bit s u h) in
-    let d = doubled-decides steps j in
+pub seen-doubled : (f : Format) (steps : List ℕ) (j : ℕ) {seen : List Row} → EndsSeen (fromOf f steps) (toOf f steps) j seen
+    → {s u : ℕ} → s ≡ fromOf f steps j → u ≡ toOf f steps j → s < 64 → doubled f steps j ≡ hasBit (wordOf seen s) u
+seen-doubled f steps j {seen} w {s} {u} es eu h =
+    let bit : T (hasBit (wordOf seen s) u) ↔ StepSoFar (fromOf f steps) (toOf f steps) j (fromOf f steps j) (toOf f steps j) =
+    rw (← es, ← eu) (w .bit s u h) in
+    let d = doubled-decides f steps j in
     same-T _ _ (λ b. bit .1 (d .sound b)) (λ b. d .complete (bit .0 b))

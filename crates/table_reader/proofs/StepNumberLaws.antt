@@ -8,25 +8,25 @@ use native.Mathlib.Omega.{arith}
 use Rattle.lists.proofs.RisingLaws.{Rise, Within, rising-same}
 use Rattle.bisimulation.specs.Systems.{Step}
 use Rattle.tables.specs.declared.Head.{Head}
-use Rattle.tables.specs.Table.{stepsOf, stepsPart, fromOf, toOf}
+use Rattle.tables.specs.Table.{stepsOf, fromIn, toIn}
 use Rattle.tables.specs.Model.{systemOf}
 use Rattle.table_reader.specs.declared.TableRead.the-variants.{Good}
 use Rattle.table_reader.specs.TableReading.{readTable}
-use Rattle.table_reader.specs.TableCauses.{InAnyOrder}
+use Rattle.table_reader.specs.TableCauses.{StepsRise}
 use Rattle.table_reader.proofs.OrderLaws.{rising-greater, steps-rise}
 use Rattle.table_reader.proofs.TableLaws.{table-ok, table-formed, steps-none}
 
 -- Step j as one number, by which steps compare as they do by from, then by to.
 asNumber : List ℕ → ℕ → ℕ
-asNumber s j = fromOf (stepsPart s) j * 64 + toOf (stepsPart s) j
+asNumber s j = fromIn s j * 64 + toIn s j
 
 -- an end is below 64
-to-small : (s : List ℕ) {h : Head} → readTable s ≡ Good h → (j : ℕ) → j < stepsOf s → toOf (stepsPart s) j < 64
+to-small : (s : List ℕ) {h : Head} → readTable s ≡ Good h → (j : ℕ) → j < stepsOf s → toIn s j < 64
 unfolding systemOf
 to-small s e j l = let a = table-formed s e .to< j l in let b = table-ok s e .states-le in omega arith
 
 -- rising steps are rising numbers
-numbers-rise : (s : List ℕ) {h : Head} → readTable s ≡ Good h → ¬ InAnyOrder s → Rise (asNumber s) (stepsOf s)
+numbers-rise : (s : List ℕ) {h : Head} → readTable s ≡ Good h → StepsRise s → Rise (asNumber s) (stepsOf s)
 unfolding asNumber
 numbers-rise s e v i j a l =
     let b = to-small s e i (omega arith) in
@@ -38,10 +38,10 @@ numbers-within : (s r : List ℕ) → ((a b : ℕ) → Step (systemOf s) a b →
     → Within (asNumber s) (stepsOf s) (asNumber r) (stepsOf r)
 unfolding asNumber systemOf
 numbers-within s r f j l =
-    let p = f (fromOf (stepsPart s) j) (toOf (stepsPart s) j) (j, l, refl, refl) in
+    let p = f (fromIn s j) (toIn s j) (j, l, refl, refl) in
     (p .0, p .1, ap₂ (λ (x y : ℕ). x * 64 + y) (p .2) (p .3))
 
-module _ (s r : List ℕ) {h k : Head} (e : readTable s ≡ Good h) (d : readTable r ≡ Good k) (v : ¬ InAnyOrder s) (w : ¬ InAnyOrder r)
+module _ (s r : List ℕ) {h k : Head} (e : readTable s ≡ Good h) (d : readTable r ≡ Good k) (v : StepsRise s) (w : StepsRise r)
     (same : (a b : ℕ) → Step (systemOf s) a b ↔ Step (systemOf r) a b) where
   both : (stepsOf s ≡ stepsOf r) × ((j : ℕ) → j < stepsOf s → asNumber s j ≡ asNumber r j)
   both =
@@ -54,7 +54,7 @@ module _ (s r : List ℕ) {h k : Head} (e : readTable s ≡ Good h) (d : readTab
 
   -- and step j of the one is step j of the other
   pub same-numbers : (j : ℕ) → j < stepsOf s
-      → (fromOf (stepsPart s) j ≡ fromOf (stepsPart r) j) × (toOf (stepsPart s) j ≡ toOf (stepsPart r) j)
+      → (fromIn s j ≡ fromIn r j) × (toIn s j ≡ toIn r j)
   unfolding asNumber
   same-numbers j l =
       let n = both .1 j l in

@@ -2,10 +2,10 @@
 -- The reader is a chain of tests in the order of the causes, and each test decides its cause. Assumes nothing.
 use Prim.Native.Nat.{ℕ}
 use mathlib.Core.Path.{_≡_, refl, ap, _∙_, subst}
-use mathlib.Core.Bool.{Bool}
+use mathlib.Core.Bool.{Bool, not, _||_}
 use mathlib.Core.List.{List, [], _∷_, _++_}
 use native.Mathlib.Omega.{arith}
-use lib.Dec.{T, ltb, ltb→lt}
+use lib.Dec.{T, eqb}
 use lib.ListN.{length}
 use Rattle.lists.specs.Lists.{All}
 use Rattle.lists.proofs.JoinLaws.{all-append, all-join, all-map}
@@ -14,7 +14,7 @@ use Rattle.answers.specs.Numbers.{sixNumbers}
 use Rattle.answers.specs.Causes.{Cause, only, FirstCause, NoCause, Numbered, allows}
 use Rattle.answers.specs.Verdicts.{Verdict, goOn, _andThen_}
 use Rattle.answers.proofs.CauseLaws.{first-holds, numbered-append, numbered-below, numbered-only, allowed}
-use Rattle.answers.proofs.DecideLaws.{ltb-decides, leb-decides, eqb-decides, not-decides}
+use Rattle.answers.proofs.DecideLaws.{test-decides, ltb-decides, leb-decides, eqb-decides, not-decides, and-decides}
 use Rattle.answers.proofs.VerdictLaws.{
   Decided,
   decided-none,
@@ -27,14 +27,27 @@ use Rattle.answers.proofs.VerdictLaws.{
   on-none,
 }
 use Rattle.tables.specs.declared.Head.{Head}
-use Rattle.tables.specs.Table.{versionOf, statesOf, startOf, stepsOf, tableLength, stepsPart}
-use Rattle.refusals.specs.declared.TableRefusal.the-variants.{Short, Magic, Version, States, Start, Steps, Length, StepEnd, Doubled, NotGreater}
+use Rattle.tables.specs.Table.{layoutIn, statesOf, startOf, startWord, stepsOf, tableLength, formatIn, stepsPart}
+use Rattle.refusals.specs.declared.TableRefusal.the-variants.{
+  Short,
+  Magic,
+  Version,
+  States,
+  Start,
+  Starts,
+  Steps,
+  Length,
+  StepEnd,
+  Doubled,
+  NotGreater,
+}
 use Rattle.table_reader.specs.declared.TableRead.{TableRead}
 use Rattle.table_reader.specs.declared.TableRead.the-variants.{Good, Refused}
-use Rattle.table_reader.specs.TableReading.{headOf, readSizes, readHeader, readSteps, withSteps, readTable}
+use Rattle.table_reader.specs.TableReading.{headOf, readLength, readSizes, readHeader, readSteps, withSteps, readTable}
 use Rattle.table_reader.specs.TableVerdicts.{tableVerdict}
 use Rattle.table_reader.specs.TableCauses.{
-  InAnyOrder,
+  StartWord,
+  StepsRise,
   headerCauses,
   endCauses,
   doubledCauses,
@@ -43,7 +56,15 @@ use Rattle.table_reader.specs.TableCauses.{
   tableCauses,
   WellFormedTable,
 }
-use Rattle.table_reader.proofs.TestLaws.{magic-decides, version-decides, states-decides, outside-decides, doubled-decides, not-greater-decides}
+use Rattle.table_reader.proofs.TestLaws.{
+  magic-decides,
+  version-decides,
+  states-decides,
+  starts-decides,
+  outside-decides,
+  doubled-decides,
+  not-greater-decides,
+}
 
 -- a verdict that goes on is that of a header
 on-good : (file : ℕ) (x : TableRead) {h : Head} → tableVerdict file x ≡ goOn h → x ≡ Good h
@@ -56,26 +77,28 @@ module _ (file : ℕ) (s : List ℕ) where
 
   -- the header's tests decide its causes
   header-decided : Decided (λ h. h ≡ headOf s) (headerCauses file s) (on (readHeader s))
-  unfolding readHeader readSizes
+  unfolding readHeader readSizes readLength
   header-decided =
       decided-test on (Refused Short) _ (ltb-decides (length s) 9) refl
       (decided-test on (Refused Magic) _ (not-decides (magic-decides 0x54 s)) refl
       (decided-test on (Refused Version) _ (not-decides (version-decides s)) refl
+      (decided-test on (Refused Short) _ (ltb-decides (length s) (layoutIn s .header)) refl
       (decided-test on (Refused States) _ (not-decides (states-decides s)) refl
-      (decided-test on (Refused Start) _ (leb-decides (statesOf s) (startOf s)) refl
+      (decided-test on (Refused Start) _ (and-decides (not-decides (test-decides (startWord s))) (leb-decides (statesOf s) (startOf s))) refl
+      (decided-test on (Refused Starts) _ (and-decides (test-decides (startWord s)) (starts-decides s)) refl
       (decided-test on (Refused Steps) _ (ltb-decides 256 (stepsOf s)) refl
-      (decided-test on (Refused Length) _ (not-decides (eqb-decides (length s) (tableLength (statesOf s) (stepsOf s)))) refl
-      (decided-none refl)))))))
+      (decided-test on (Refused Length) _ (not-decides (eqb-decides (length s) (tableLength s))) refl
+      (decided-none refl)))))))))
 
   -- and those of the steps theirs
   steps-decided : Decided (λ h. h ≡ headOf s) (endCauses file s ++ orderCauses file s) (on (readSteps (headOf s) (stepsPart s)))
   unfolding readSteps
   steps-decided =
-      decided-search on (stepsOf s) (sixNumbers 8 file) (λ j. Refused (StepEnd j)) _ (outside-decides (stepsPart s) (statesOf s)) (λ j. refl)
-      (decided-either on {xs = doubledCauses file s} {ys = notGreaterCauses file s} _ _ _ (eqb-decides (versionOf s) 1)
-      (decided-end (decided-search on (stepsOf s) (sixNumbers 9 file) (λ j. Refused (Doubled j)) _ (doubled-decides (stepsPart s)) (λ j. refl)
-      (decided-none refl)))
+      decided-search on (stepsOf s) (sixNumbers 8 file) (λ j. Refused (StepEnd j)) _ (outside-decides (formatIn s) (stepsPart s) (statesOf s)) (λ j. refl)
+      (decided-either on {xs = notGreaterCauses file s} {ys = doubledCauses file s} _ _ _ (test-decides (layoutIn s .rising))
       (decided-end (decided-search on (stepsOf s) (sixNumbers 24 file) (λ j. Refused (NotGreater j)) _ (not-greater-decides s) (λ j. refl)
+      (decided-none refl)))
+      (decided-end (decided-search on (stepsOf s) (sixNumbers 9 file) (λ j. Refused (Doubled j)) _ (doubled-decides (formatIn s) (stepsPart s)) (λ j. refl)
       (decided-none refl))))
 
   header-then-steps : (x : TableRead) → (on x andThen λ h. on (readSteps h (stepsPart s))) ≡ on (withSteps s x)
@@ -113,42 +136,56 @@ pub after-table : (file : ℕ) (s : List ℕ) {B : Type 0} {Fine : B → Type 0}
     → Decided Fine (tableCauses file s ++ later) (tableVerdict file (readTable s) andThen λ h. rest)
 after-table file s d = decided-then (tableVerdict file (readTable s)) (table-decided file s) (λ h e n. d (good-formed s (none-good file s n)))
 
--- ---- the numbers are 1 to 9 and 24, with the file given
+-- ---- the numbers are 1 to 9, 24 and 28, with the file given
 
 abbrev pub tableNumbers : List ℕ
-tableNumbers = 1 ∷ 2 ∷ 3 ∷ 4 ∷ 5 ∷ 6 ∷ 7 ∷ 8 ∷ 9 ∷ 24 ∷ []
+tableNumbers = 1 ∷ 2 ∷ 3 ∷ 4 ∷ 5 ∷ 6 ∷ 7 ∷ 8 ∷ 9 ∷ 24 ∷ 28 ∷ []
 
 pub table-numbers : (f : ℕ → ℕ → Bool) (file : ℕ) → T (allows f file tableNumbers) → (s : List ℕ) → Numbered f (tableCauses file s)
 table-numbers f file h s = go (allowed f file tableNumbers h)
   where
     go : All (λ code. T (f code file)) tableNumbers → Numbered f (tableCauses file s)
-    go (h1, (h2, (h3, (h4, (h5, (h6, (h7, (h8, (h9, (h24, none)))))))))) =
-        numbered-append f (headerCauses file s) (endCauses file s ++ orderCauses file s) (h1, (h2, (h3, (h4, (h5, (h6, (h7, tt)))))))
+    go (h1, (h2, (h3, (h4, (h5, (h6, (h7, (h8, (h9, (h24, (h28, none))))))))))) =
+        numbered-append f (headerCauses file s) (endCauses file s ++ orderCauses file s) (h1, (h2, (h3, (h1, (h4, (h5, (h28, (h6, (h7, tt)))))))))
         (numbered-append f (endCauses file s) (orderCauses file s) (numbered-below f (stepsOf s) _ (λ j. (h8, tt)))
-        (numbered-append f (only (InAnyOrder s) (doubledCauses file s)) (only (¬ InAnyOrder s) (notGreaterCauses file s))
-        (numbered-only f (InAnyOrder s) (doubledCauses file s) (numbered-below f (stepsOf s) _ (λ j. (h9, tt))))
-        (numbered-only f (¬ InAnyOrder s) (notGreaterCauses file s) (numbered-below f (stepsOf s) _ (λ j. (h24, tt))))))
+        (numbered-append f (only (StepsRise s) (notGreaterCauses file s)) (only (¬ StepsRise s) (doubledCauses file s))
+        (numbered-only f (StepsRise s) (notGreaterCauses file s) (numbered-below f (stepsOf s) _ (λ j. (h24, tt))))
+        (numbered-only f (¬ StepsRise s) (doubledCauses file s) (numbered-below f (stepsOf s) _ (λ j. (h9, tt))))))
 
--- ---- 9 is answered only where the steps may stand in any order, and 24 only where they rise
+-- ---- by the version: 9 only where the steps may stand in any order, 24 only where they rise, 5 only of one start, 28 only of a start word
 
 module _ (file : ℕ) (s : List ℕ) where
   abbrev Told : Answer → Type 0
-  Told a = (a .code ≡ 9 → InAnyOrder s) × (a .code ≡ 24 → ¬ InAnyOrder s)
+  Told a = (a .code ≡ 9 → ¬ StepsRise s) × (a .code ≡ 24 → StepsRise s) × (a .code ≡ 5 → ¬ StartWord s) × (a .code ≡ 28 → StartWord s)
 
   abbrev Tells : Cause → Type 0
   Tells c = c .condition → Told (c .numbers)
 
-  -- a number below 9 is neither
-  below-9 : {C : Type 0} (code : ℕ) → T (ltb code 9) → C → (code ≡ 9 → InAnyOrder s) × (code ≡ 24 → ¬ InAnyOrder s)
-  below-9 code h p = let l = ltb→lt code 9 h in (λ e. absurd (omega arith), λ e. absurd (omega arith))
+  -- any other number tells nothing
+  other : {C : Type 0} (code : ℕ) → T (not (eqb code 9 || eqb code 24 || eqb code 5 || eqb code 28)) → C
+      → (code ≡ 9 → ¬ StepsRise s) × (code ≡ 24 → StepsRise s) × (code ≡ 5 → ¬ StartWord s) × (code ≡ 28 → StartWord s)
+  other code h p = (λ e. absurd (rw e at h), λ e. absurd (rw e at h), λ e. absurd (rw e at h), λ e. absurd (rw e at h))
 
-  pub order-told : (a : Answer) → FirstCause (tableCauses file s) a → (a .code ≡ 9 → InAnyOrder s) × (a .code ≡ 24 → ¬ InAnyOrder s)
-  order-told a =
+  pub version-told : (a : Answer) → FirstCause (tableCauses file s) a
+      → (a .code ≡ 9 → ¬ StepsRise s) × (a .code ≡ 24 → StepsRise s) × (a .code ≡ 5 → ¬ StartWord s) × (a .code ≡ 28 → StartWord s)
+  version-told a =
       first-holds Told (tableCauses file s) a
       (all-append Tells (headerCauses file s) (endCauses file s ++ orderCauses file s)
-      (below-9 1 tt, (below-9 2 tt, (below-9 3 tt, (below-9 4 tt, (below-9 5 tt, (below-9 6 tt, (below-9 7 tt, tt)))))))
+      (other 1 tt, (other 2 tt, (other 3 tt, (other 1 tt, (other 4 tt, (one-start, (start-word, (other 6 tt, (other 7 tt, tt)))))))))
       (all-append Tells (endCauses file s) (orderCauses file s)
-      (all-join Tells (stepsOf s) _ (λ j l. (below-9 8 tt, tt)))
-      (all-append Tells (only (InAnyOrder s) (doubledCauses file s)) (only (¬ InAnyOrder s) (notGreaterCauses file s))
-      (all-map Tells _ (doubledCauses file s) (all-join _ (stepsOf s) _ (λ j l. (λ p. (λ e. p .0, λ e. absurd (omega arith)), tt))))
-      (all-map Tells _ (notGreaterCauses file s) (all-join _ (stepsOf s) _ (λ j l. (λ p. (λ e. absurd (omega arith), λ e. p .0), tt)))))))
+      (all-join Tells (stepsOf s) _ (λ j l. (other 8 tt, tt)))
+      (all-append Tells (only (StepsRise s) (notGreaterCauses file s)) (only (¬ StepsRise s) (doubledCauses file s))
+      (all-map Tells _ (notGreaterCauses file s) (all-join _ (stepsOf s) _ (λ j l. (late j, tt))))
+      (all-map Tells _ (doubledCauses file s) (all-join _ (stepsOf s) _ (λ j l. (twice j, tt)))))))
+    where
+      one-start : {C : Type 0} → (¬ StartWord s) × C → Told (sixNumbers 5 file 0)
+      one-start p = (λ e. absurd (omega arith), λ e. absurd (omega arith), λ e. p .0, λ e. absurd (omega arith))
+
+      start-word : {C : Type 0} → StartWord s × C → Told (sixNumbers 28 file 0)
+      start-word p = (λ e. absurd (omega arith), λ e. absurd (omega arith), λ e. absurd (omega arith), λ e. p .0)
+
+      late : (j : ℕ) {C : Type 0} → StepsRise s × C → Told (sixNumbers 24 file j)
+      late j p = (λ e. absurd (omega arith), λ e. p .0, λ e. absurd (omega arith), λ e. absurd (omega arith))
+
+      twice : (j : ℕ) {C : Type 0} → (¬ StepsRise s) × C → Told (sixNumbers 9 file j)
+      twice j p = (λ e. p .0, λ e. absurd (omega arith), λ e. absurd (omega arith), λ e. absurd (omega arith))

@@ -5,11 +5,14 @@ use mathlib.Core.Logic.{_⊎_, inl, inr}
 use mathlib.Core.List.{List}
 use native.Mathlib.Omega.{arith}
 use Rattle.lists.specs.Below.{firstBelow}
+use Rattle.words.specs.Bits.{hasBit, hasFrom, HasFrom}
 use Rattle.lists.proofs.BelowLaws.{first-least}
-use Rattle.tables.specs.Table.{magicFits, versionOf, statesOf, stepsPart, fromOf, toOf}
-use Rattle.table_reader.specs.TableReading.{versionFits, statesFit, endsOutside, sameStep, doubled, greater, notGreater}
+use Rattle.tables.specs.declared.Format.{Format}
+use Rattle.tables.specs.Table.{magicFits, versionOf, formatIn, statesOf, startsOf, stepsPart, fromOf, toOf}
+use Rattle.table_reader.specs.TableReading.{versionFits, statesFit, wrongStarts}
+use Rattle.table_reader.specs.TableReading.{endsOutside, sameStep, doubled, greater, notGreater}
 use Rattle.table_reader.specs.EndsSeen.{EndsBelow}
-use Rattle.table_reader.specs.TableCauses.{MagicFits, NotGreater}
+use Rattle.table_reader.specs.TableCauses.{MagicFits, WrongStarts, NotGreater}
 use Rattle.answers.proofs.DecideLaws.{
   Decides,
   decides-as,
@@ -29,7 +32,7 @@ magic-decides third s =
     decides-as (and-decides (and-decides (eqb-decides _ _) (eqb-decides _ _)) (eqb-decides _ _))
     (λ p. (p .0 .0, p .0 .1, p .1)) (λ p. ((p .0, p .1), p .2))
 
-pub version-decides : (s : List ℕ) → Decides (versionFits s) ((1 ≤ versionOf s) × (versionOf s ≤ 2))
+pub version-decides : (s : List ℕ) → Decides (versionFits s) ((1 ≤ versionOf s) × (versionOf s ≤ 3))
 unfolding versionFits
 version-decides s = and-decides (leb-decides _ _) (leb-decides _ _)
 
@@ -37,35 +40,47 @@ pub states-decides : (s : List ℕ) → Decides (statesFit s) ((1 ≤ statesOf s
 unfolding statesFit
 states-decides s = and-decides (leb-decides _ _) (leb-decides _ _)
 
-module _ (steps : List ℕ) where
-  pub outside-decides : (n j : ℕ) → Decides (endsOutside steps n j) ((n ≤ fromOf steps j) ⊎ (n ≤ toOf steps j))
+-- a bit n or more of a word
+pub from-decides : (x n : ℕ) → Decides (hasFrom x n) (HasFrom x n)
+unfolding hasFrom
+from-decides x n =
+    decides-as (any-decides 64 (λ t. and-decides (leb-decides n t) (test-decides (hasBit x t))))
+    (λ r. (r .0, r .1, r .2 .0, r .2 .1)) (λ r. (r .0, r .1, (r .2, r .3)))
+
+pub starts-decides : (s : List ℕ) → Decides (wrongStarts s) (WrongStarts s)
+unfolding wrongStarts
+starts-decides s = or-decides (eqb-decides (startsOf s) 0) (from-decides (startsOf s) (statesOf s))
+
+module _ (f : Format) (steps : List ℕ) where
+  pub outside-decides : (n j : ℕ) → Decides (endsOutside f steps n j) ((n ≤ fromOf f steps j) ⊎ (n ≤ toOf f steps j))
   unfolding endsOutside
   outside-decides n j = or-decides (leb-decides _ _) (leb-decides _ _)
 
   -- where no step has an end of n or more, every end is below what n does not exceed
-  pub outside-none : (n k m : ℕ) {o : ℕ} → o ≡ firstBelow m (endsOutside steps n) → m ≤ o → n ≤ k → EndsBelow k steps m
+  pub outside-none : (n k m : ℕ) {o : ℕ} → o ≡ firstBelow m (endsOutside f steps n) → m ≤ o → n ≤ k → EndsBelow k f steps m
   outside-none n k m e none le j l =
       let d = outside-decides n j in
-      let inside : (n ≤ fromOf steps j) ⊎ (n ≤ toOf steps j) → ⊥ = λ o. first-least m (endsOutside steps n) j (omega arith) (d .complete o) in
-      let f : n ≤ fromOf steps j → ⊥ = λ a. inside (inl a) in
-      let t : n ≤ toOf steps j → ⊥ = λ a. inside (inr a) in
+      let inside : (n ≤ fromOf f steps j) ⊎ (n ≤ toOf f steps j) → ⊥ = λ o. first-least m (endsOutside f steps n) j (omega arith) (d .complete o) in
+      let from-in : n ≤ fromOf f steps j → ⊥ = λ a. inside (inl a) in
+      let to-in : n ≤ toOf f steps j → ⊥ = λ a. inside (inr a) in
       (omega arith, omega arith)
 
-  pub same-decides : (j i : ℕ) → Decides (sameStep steps j i) ((fromOf steps i ≡ fromOf steps j) × (toOf steps i ≡ toOf steps j))
+  pub same-decides : (j i : ℕ) → Decides (sameStep f steps j i) ((fromOf f steps i ≡ fromOf f steps j) × (toOf f steps i ≡ toOf f steps j))
   unfolding sameStep
   same-decides j i = and-decides (eqb-decides _ _) (eqb-decides _ _)
 
   pub doubled-decides : (j : ℕ)
-      → Decides (doubled steps j) ((i : ℕ) × (i < j) × (fromOf steps i ≡ fromOf steps j) × (toOf steps i ≡ toOf steps j))
+      → Decides (doubled f steps j) ((i : ℕ) × (i < j) × (fromOf f steps i ≡ fromOf f steps j) × (toOf f steps i ≡ toOf f steps j))
   unfolding doubled
   doubled-decides j = decides-as (any-decides j (same-decides j)) (λ r. (r .0, r .1, r .2 .0, r .2 .1)) (λ r. (r .0, r .1, (r .2, r .3)))
 
   pub greater-decides : (j i : ℕ)
-      → Decides (greater steps j i) ((fromOf steps i < fromOf steps j) ⊎ ((fromOf steps i ≡ fromOf steps j) × (toOf steps i < toOf steps j)))
+      → Decides (greater f steps j i)
+      ((fromOf f steps i < fromOf f steps j) ⊎ ((fromOf f steps i ≡ fromOf f steps j) × (toOf f steps i < toOf f steps j)))
   unfolding greater
   greater-decides j i = or-decides (ltb-decides _ _) (and-decides (eqb-decides _ _) (ltb-decides _ _))
 
-pub not-greater-decides : (s : List ℕ) (j : ℕ) → Decides (notGreater (stepsPart s) j) (NotGreater s j)
+pub not-greater-decides : (s : List ℕ) (j : ℕ) → Decides (notGreater (formatIn s) (stepsPart s) j) (NotGreater s j)
 unfolding notGreater
 not-greater-decides s zero = test-decides _
-not-greater-decides s (suc i) = not-decides (greater-decides (stepsPart s) (suc i) i)
+not-greater-decides s (suc i) = not-decides (greater-decides (formatIn s) (stepsPart s) (suc i) i)

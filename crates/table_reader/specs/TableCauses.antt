@@ -1,15 +1,18 @@
--- The causes 1 to 9 and 24, each worded as its row of document 01's table or as Ask 1 of document 02, and not through the reader. `file` is the number of
--- the file in the answer.
+-- The causes 1 to 9, 24 and 28, each worded as its row of document 01's table or as Ask 1 or 5 of document 02, and not through the reader. `file` is the
+-- number of the file in the answer.
 use Prim.Native.Nat.{ℕ, zero, suc, _≤_, _<_}
 use mathlib.Core.Path.{_≡_}
 use mathlib.Core.Logic.{_⊎_}
+use mathlib.Core.Bool.{Bool, _&&_, _||_}
 use mathlib.Core.List.{List, [], _∷_, _++_}
+use lib.Dec.{T, leb, eqb}
 use lib.ListN.{length}
 use Rattle.lists.specs.Lists.{joinBelow}
 use Rattle.lists.specs.Numbers.{byteAt}
+use Rattle.words.specs.Bits.{HasFrom}
 use Rattle.answers.specs.Numbers.{sixNumbers}
 use Rattle.answers.specs.Causes.{Cause, _gives_, only, NoCause}
-use Rattle.tables.specs.Table.{versionOf, statesOf, startOf, stepsOf, tableLength, stepsPart, fromOf, toOf}
+use Rattle.tables.specs.Table.{versionOf, layoutIn, statesOf, startOf, startsOf, startWord, stepsOf, tableLength, fromIn, toIn}
 
 -- Bytes 0 to 2 are "TP" and this third one.
 abbrev pub MagicFits : ℕ → List ℕ → Type 0
@@ -17,40 +20,50 @@ MagicFits third s = (byteAt s 0 ≡ 0x54) × (byteAt s 1 ≡ 0x50) × (byteAt s 
 
 -- An end of step j is n or more.
 abbrev pub EndOutside : List ℕ → ℕ → Type 0
-EndOutside s j = (statesOf s ≤ fromOf (stepsPart s) j) ⊎ (statesOf s ≤ toOf (stepsPart s) j)
+EndOutside s j = (statesOf s ≤ fromIn s j) ⊎ (statesOf s ≤ toIn s j)
 
 -- Step j equals an earlier one.
 abbrev pub EqualsEarlier : List ℕ → ℕ → Type 0
-EqualsEarlier s j = (i : ℕ) × (i < j) × (fromOf (stepsPart s) i ≡ fromOf (stepsPart s) j) × (toOf (stepsPart s) i ≡ toOf (stepsPart s) j)
+EqualsEarlier s j = (i : ℕ) × (i < j) × (fromIn s i ≡ fromIn s j) × (toIn s i ≡ toIn s j)
 
 -- Step j is greater than step i: by from, then by to.
 abbrev pub Greater : List ℕ → ℕ → ℕ → Type 0
-Greater s j i =
-    (fromOf (stepsPart s) i < fromOf (stepsPart s) j)
-    ⊎ ((fromOf (stepsPart s) i ≡ fromOf (stepsPart s) j) × (toOf (stepsPart s) i < toOf (stepsPart s) j))
+Greater s j i = (fromIn s i < fromIn s j) ⊎ ((fromIn s i ≡ fromIn s j) × (toIn s i < toIn s j))
 
 -- Step j is not greater than the one before it; step 0 has none before it.
 abbrev pub NotGreater : List ℕ → ℕ → Type 0
 NotGreater s zero = ⊥
 NotGreater s (suc i) = ¬ Greater s (suc i) i
 
--- The causes of the header and the length, in the order of their numbers.
+-- The file has a start word, by its version.
+abbrev pub StartWord : List ℕ → Type 0
+StartWord s = T (startWord s)
+
+-- The start word is 0 or has a bit n or more.
+abbrev pub WrongStarts : List ℕ → Type 0
+WrongStarts s = (startsOf s ≡ 0) ⊎ HasFrom (startsOf s) (statesOf s)
+
+-- The causes of the header and the length, in their order.
 abbrev pub headerCauses : ℕ → List ℕ → List Cause
 headerCauses file s =
     -- table under 9 bytes
     (length s < 9) gives sixNumbers 1 file 0
     -- first three bytes
     ∷ (¬ MagicFits 0x54 s) gives sixNumbers 2 file 0
-    -- version other than 1 and 2
-    ∷ (¬ ((1 ≤ versionOf s) × (versionOf s ≤ 2))) gives sixNumbers 3 file 0
+    -- version other than 1, 2 and 3
+    ∷ (¬ ((1 ≤ versionOf s) × (versionOf s ≤ 3))) gives sixNumbers 3 file 0
+    -- under the length of its header: 16 bytes with a start word, and 9, tested above, without
+    ∷ (length s < layoutIn s .header) gives sixNumbers 1 file 0
     -- n not 1 to 64
     ∷ (¬ ((1 ≤ statesOf s) × (statesOf s ≤ 64))) gives sixNumbers 4 file 0
     -- start n or more
-    ∷ (statesOf s ≤ startOf s) gives sixNumbers 5 file 0
+    ∷ ((¬ StartWord s) × (statesOf s ≤ startOf s)) gives sixNumbers 5 file 0
+    -- in its place for a start word: the word is 0 or has a bit n or more
+    ∷ (StartWord s × WrongStarts s) gives sixNumbers 28 file 0
     -- m over 256
     ∷ (256 < stepsOf s) gives sixNumbers 6 file 0
     -- table length
-    ∷ (¬ (length s ≡ tableLength (statesOf s) (stepsOf s))) gives sixNumbers 7 file 0
+    ∷ (¬ (length s ≡ tableLength s)) gives sixNumbers 7 file 0
     ∷ []
 
 -- Step end n or more, a the first such step.
@@ -65,17 +78,21 @@ doubledCauses file s = joinBelow (stepsOf s) (λ j. EqualsEarlier s j gives sixN
 abbrev pub notGreaterCauses : ℕ → List ℕ → List Cause
 notGreaterCauses file s = joinBelow (stepsOf s) (λ j. NotGreater s j gives sixNumbers 24 file j ∷ [])
 
--- The steps may stand in any order.
-abbrev pub InAnyOrder : List ℕ → Type 0
-InAnyOrder s = versionOf s ≡ 1
+-- The steps rise, by the version; otherwise they may stand in any order.
+abbrev pub StepsRise : List ℕ → Type 0
+StepsRise s = T (layoutIn s .rising)
 
--- 9 where the steps may stand in any order, and in its place 24 where they rise.
+-- 24 where the steps rise, and in its place 9 where they may stand in any order.
 abbrev pub orderCauses : ℕ → List ℕ → List Cause
-orderCauses file s = only (InAnyOrder s) (doubledCauses file s) ++ only (¬ InAnyOrder s) (notGreaterCauses file s)
+orderCauses file s = only (StepsRise s) (notGreaterCauses file s) ++ only (¬ StepsRise s) (doubledCauses file s)
 
 -- The causes that turn a table away, in the documents' order.
 abbrev pub tableCauses : ℕ → List ℕ → List Cause
 tableCauses file s = headerCauses file s ++ (endCauses file s ++ orderCauses file s)
+
+-- Their numbers: 1 to 9, 24 and 28.
+abbrev pub tableNumber : ℕ → Bool
+tableNumber code = (leb 1 code && leb code 9) || eqb code 24 || eqb code 28
 
 -- A table is well formed where no cause for turning a table away applies to it; which file it is makes no difference.
 abbrev pub WellFormedTable : List ℕ → Type 0

@@ -1,33 +1,51 @@
--- What reading a table gives (document 01, Table and What is turned away; document 02, Ask 1): a header, or the first cause that applies.
+-- What reading a table gives (document 01, Table and What is turned away; document 02, Asks 1 and 5): a header, or the first cause that applies.
 use Prim.Native.Nat.{ℕ, zero, suc}
 use mathlib.Core.List.{List}
 use mathlib.Core.Bool.{Bool, false, cond, not, _&&_, _||_}
 use lib.ListN.{length}
 use lib.Dec.{ltb, leb, eqb}
 use Rattle.lists.specs.Below.{anyBelow, firstBelow}
+use Rattle.words.specs.Bits.{hasFrom}
+use Rattle.tables.specs.declared.Format.{Format}
 use Rattle.tables.specs.Table.{
-  headerLength,
   maxStates,
   maxSteps,
+  startHeader,
+  layoutOf,
   lastVersion,
-  anyOrder,
   magicFits,
   versionOf,
+  formatIn,
+  layoutIn,
   statesOf,
   startOf,
-  stepsOf,
+  startsOf,
+  startWord,
   initialOf,
+  stepsOf,
   tableLength,
   stepsPart,
   fromOf,
   toOf,
 }
 use Rattle.tables.specs.declared.Head.{Head}
-use Rattle.refusals.specs.declared.TableRefusal.the-variants.{Short, Magic, Version, States, Start, Steps, Length, StepEnd, Doubled, NotGreater}
+use Rattle.refusals.specs.declared.TableRefusal.the-variants.{
+  Short,
+  Magic,
+  Version,
+  States,
+  Start,
+  Starts,
+  Steps,
+  Length,
+  StepEnd,
+  Doubled,
+  NotGreater,
+}
 use Rattle.table_reader.specs.declared.TableRead.{TableRead}
 use Rattle.table_reader.specs.declared.TableRead.the-variants.{Good, Refused}
 
--- The version is 1 or 2.
+-- The version is 1 to 3.
 unfoldable pub versionFits : List ℕ → Bool
 versionFits s = leb 1 (versionOf s) && leb (versionOf s) lastVersion
 
@@ -35,59 +53,71 @@ versionFits s = leb 1 (versionOf s) && leb (versionOf s) lastVersion
 unfoldable pub statesFit : List ℕ → Bool
 statesFit s = leb 1 (statesOf s) && leb (statesOf s) maxStates
 
--- An end of step j is n or more.
-unfoldable pub endsOutside : List ℕ → ℕ → ℕ → Bool
-endsOutside steps n j = leb n (fromOf steps j) || leb n (toOf steps j)
+-- The start word is 0 or has a bit n or more.
+unfoldable pub wrongStarts : List ℕ → Bool
+wrongStarts s = eqb (startsOf s) 0 || hasFrom (startsOf s) (statesOf s)
 
--- Step j equals step i.
-unfoldable pub sameStep : List ℕ → ℕ → ℕ → Bool
-sameStep steps j i = eqb (fromOf steps i) (fromOf steps j) && eqb (toOf steps i) (toOf steps j)
+module _ (f : Format) (steps : List ℕ) where
+  -- An end of step j is n or more.
+  unfoldable pub endsOutside : ℕ → ℕ → Bool
+  endsOutside n j = leb n (fromOf f steps j) || leb n (toOf f steps j)
 
--- Step j equals an earlier one.
-unfoldable pub doubled : List ℕ → ℕ → Bool
-doubled steps j = anyBelow j (sameStep steps j)
+  -- Step j equals step i.
+  unfoldable pub sameStep : ℕ → ℕ → Bool
+  sameStep j i = eqb (fromOf f steps i) (fromOf f steps j) && eqb (toOf f steps i) (toOf f steps j)
 
--- Step j is greater than step i: by from, then by to.
-unfoldable pub greater : List ℕ → ℕ → ℕ → Bool
-greater steps j i = ltb (fromOf steps i) (fromOf steps j) || (eqb (fromOf steps i) (fromOf steps j) && ltb (toOf steps i) (toOf steps j))
+  -- Step j equals an earlier one.
+  unfoldable pub doubled : ℕ → Bool
+  doubled j = anyBelow j (sameStep j)
 
--- Step j is not greater than the one before it; step 0 has none before it.
-unfoldable pub notGreater : List ℕ → ℕ → Bool
-notGreater steps zero = false
-notGreater steps (suc i) = not (greater steps (suc i) i)
+  -- Step j is greater than step i: by from, then by to.
+  unfoldable pub greater : ℕ → ℕ → Bool
+  greater j i = ltb (fromOf f steps i) (fromOf f steps j) || (eqb (fromOf f steps i) (fromOf f steps j) && ltb (toOf f steps i) (toOf f steps j))
+
+  -- Step j is not greater than the one before it; step 0 has none before it.
+  unfoldable pub notGreater : ℕ → Bool
+  notGreater zero = false
+  notGreater (suc i) = not (greater (suc i) i)
 
 -- What the header of a good table says.
 abbrev pub headOf : List ℕ → Head
-headOf s = record { version = versionOf s; states = statesOf s; steps = stepsOf s; initial = record { 0 = initialOf s } }
+headOf s = record { format = formatIn s; states = statesOf s; steps = stepsOf s; initial = record { 0 = initialOf s } }
 
--- Causes 4 to 7: the first that applies, or the header.
+-- Causes 6 and 7: the first that applies, or the header.
+unfoldable pub readLength : List ℕ → TableRead
+readLength s =
+    cond (ltb maxSteps (stepsOf s)) (Refused Steps)
+    (cond (not (eqb (length s) (tableLength s))) (Refused Length)
+    (Good (headOf s)))
+
+-- Cause 1 of a header that is longer than 9 bytes, then 4, then 5 of one start and 28 of a start word, then 6 and 7.
 unfoldable pub readSizes : List ℕ → TableRead
 readSizes s =
-    cond (not (statesFit s)) (Refused States)
-    (cond (leb (statesOf s) (startOf s)) (Refused Start)
-    (cond (ltb maxSteps (stepsOf s)) (Refused Steps)
-    (cond (not (eqb (length s) (tableLength (statesOf s) (stepsOf s)))) (Refused Length)
-    (Good (headOf s)))))
+    cond (ltb (length s) (layoutIn s .header)) (Refused Short)
+    (cond (not (statesFit s)) (Refused States)
+    (cond (not (startWord s) && leb (statesOf s) (startOf s)) (Refused Start)
+    (cond (startWord s && wrongStarts s) (Refused Starts)
+    (readLength s))))
 
--- Causes 1 to 3, then 4 to 7.
+-- Causes 1 to 3, then the others of the header.
 unfoldable pub readHeader : List ℕ → TableRead
 readHeader s =
-    cond (ltb (length s) headerLength) (Refused Short)
+    cond (ltb (length s) startHeader) (Refused Short)
     (cond (not (magicFits 0x54 s)) (Refused Magic)
     (cond (not (versionFits s)) (Refused Version)
     (readSizes s)))
 
--- Causes 8, 9 and 24 of a table whose header is good: the first step with an end outside, then for version 1 the first that equals an earlier one, and
--- for the others the first that is not greater than the one before it.
+-- Causes 8, 9 and 24 of a table whose header is good: the first step with an end outside, then where the steps rise the first that is not greater than the
+-- one before it, and otherwise the first that equals an earlier one.
 unfoldable pub readSteps : Head → List ℕ → TableRead
 readSteps h steps =
-    let outside = firstBelow (h .steps) (endsOutside steps (h .states)) in
-    let twice = firstBelow (h .steps) (doubled steps) in
-    let late = firstBelow (h .steps) (notGreater steps) in
+    let outside = firstBelow (h .steps) (endsOutside (h .format) steps (h .states)) in
+    let late = firstBelow (h .steps) (notGreater (h .format) steps) in
+    let twice = firstBelow (h .steps) (doubled (h .format) steps) in
     cond (ltb outside (h .steps)) (Refused (StepEnd outside))
-    (cond (eqb (h .version) anyOrder)
-    (cond (ltb twice (h .steps)) (Refused (Doubled twice)) (Good h))
-    (cond (ltb late (h .steps)) (Refused (NotGreater late)) (Good h)))
+    (cond (layoutOf (h .format) .rising)
+    (cond (ltb late (h .steps)) (Refused (NotGreater late)) (Good h))
+    (cond (ltb twice (h .steps)) (Refused (Doubled twice)) (Good h)))
 
 -- The steps are looked at where the header is good.
 abbrev pub withSteps : List ℕ → TableRead → TableRead

@@ -1,20 +1,28 @@
 // The reader of state tables: for every byte string a header, or the one refusal whose condition and place in the order fit.
 use answers::Answer;
 use lists::byte;
-use lists::read_be16;
 use refusals::TableRefusal;
+use tables::Format;
 use tables::Head;
+use tables::Layout;
+use tables::format_of;
 use tables::from;
+use tables::initial;
+use tables::start;
+use tables::starts;
 use tables::states;
 use tables::step_count;
 use tables::steps;
+use tables::table_length;
 use tables::to;
+use tables::version;
 use words::Row;
 ghost use mathlib.Core.Path.{_≡_};
 ghost use Rattle.lists.specs.Below.{firstBelow};
 ghost use Rattle.answers.specs.Verdicts.{refusalOf};
 ghost use Rattle.tables.specs.Table.{magicFits};
-ghost use Rattle.table_reader.specs.TableReading.{headOf, readSizes, readHeader, readTable, endsOutside, doubled, greater, notGreater};
+ghost use Rattle.table_reader.specs.TableReading.{headOf, wrongStarts, readLength, readSizes, readHeader, readTable};
+ghost use Rattle.table_reader.specs.TableReading.{endsOutside, doubled, greater, notGreater};
 ghost use Rattle.table_reader.specs.EndsSeen.{EndsBelow};
 ghost use Rattle.table_reader.specs.TableVerdicts.{tableVerdict};
 
@@ -41,20 +49,51 @@ pub fn magic_fits(s: &[u8], third: usize) -> bool
 pub fn head_of(s: &[u8]) -> Head
     ensures { λ r. ⌜ r ≡ headOf (now (s .entry)) ⌝ }
 {
-    let none = Row::empty();
-    let initial = none.add(byte(s, 6));
+    let format = format_of(s);
+    let states = states(s);
+    let steps = step_count(s);
+    let initial = initial(s);
     Head {
-        version: read_be16(s, 3) as usize,
-        states: states(s),
-        steps: step_count(s),
+        format,
+        states,
+        steps,
         initial,
     }
 }
 
-// Causes 4 to 7.
+// Causes 6 and 7.
+fn read_length(s: &[u8]) -> TableRead
+    ensures { λ r. ⌜ r ≡ readLength (now (s .entry)) ⌝ }
+{
+    if Head::MAX_STEPS < step_count(s) {
+        return TableRead::Refused(TableRefusal::Steps);
+    }
+    if s.len() != table_length(s) {
+        return TableRead::Refused(TableRefusal::Length);
+    }
+    TableRead::Good(head_of(s))
+}
+
+// Whether the start word is 0 or has a bit n or more.
+fn starts_wrong(s: &[u8]) -> bool
+    ensures { λ r. ⌜ r ≡ wrongStarts (now (s .entry)) ⌝ }
+{
+    let n = states(s);
+    let initial = starts(s);
+    if initial.is_empty() {
+        return true;
+    }
+    initial.has_from(n)
+}
+
+// Cause 1 of a header that is longer than 9 bytes, then 4, then 5 of one start and 28 of a start word, then 6 and 7.
 fn read_sizes(s: &[u8]) -> TableRead
     ensures { λ r. ⌜ r ≡ readSizes (now (s .entry)) ⌝ }
 {
+    let layout = format_of(s).layout();
+    if s.len() < layout.header {
+        return TableRead::Refused(TableRefusal::Short);
+    }
     let n = states(s);
     if n < 1 {
         return TableRead::Refused(TableRefusal::States);
@@ -62,49 +101,48 @@ fn read_sizes(s: &[u8]) -> TableRead
     if Head::MAX_STATES < n {
         return TableRead::Refused(TableRefusal::States);
     }
-    if n <= byte(s, 6) {
+    if layout.word {
+        if starts_wrong(s) {
+            return TableRead::Refused(TableRefusal::Starts);
+        }
+        return read_length(s);
+    }
+    if n <= start(s) {
         return TableRead::Refused(TableRefusal::Start);
     }
-    let m = step_count(s);
-    if Head::MAX_STEPS < m {
-        return TableRead::Refused(TableRefusal::Steps);
-    }
-    if s.len() != Head::BYTES + n * 2 + m * 2 {
-        return TableRead::Refused(TableRefusal::Length);
-    }
-    TableRead::Good(head_of(s))
+    read_length(s)
 }
 
-// Causes 1 to 3, then 4 to 7.
+// Causes 1 to 3, then the others of the header.
 fn read_header(s: &[u8]) -> TableRead
     ensures { λ r. ⌜ r ≡ readHeader (now (s .entry)) ⌝ }
 {
-    if s.len() < Head::BYTES {
+    if s.len() < Layout::ONE_START {
         return TableRead::Refused(TableRefusal::Short);
     }
     if !magic_fits(s, Head::TABLE) {
         return TableRead::Refused(TableRefusal::Magic);
     }
-    let version = read_be16(s, 3);
+    let version = version(s);
     if version < 1 {
         return TableRead::Refused(TableRefusal::Version);
     }
-    if Head::LAST_VERSION < version {
+    if Format::LAST_VERSION < version {
         return TableRead::Refused(TableRefusal::Version);
     }
     read_sizes(s)
 }
 
 // The first of m steps with an end of n or more, and m where there is none.
-fn first_outside(steps: &[u8], n: usize, m: usize) -> usize
-    ensures { λ r. ⌜ r ≡ firstBelow m (endsOutside (now (steps .entry)) n) ⌝ }
+fn first_outside(steps: &[u8], format: Format, n: usize, m: usize) -> usize
+    ensures { λ r. ⌜ r ≡ firstBelow m (endsOutside format (now (steps .entry)) n) ⌝ }
 {
     let mut j: usize = 0;
     while j < m {
-        if n <= from(steps, j) {
+        if n <= from(steps, format, j) {
             return j;
         }
-        if n <= to(steps, j) {
+        if n <= to(steps, format, j) {
             return j;
         }
         j += 1;
@@ -114,15 +152,15 @@ fn first_outside(steps: &[u8], n: usize, m: usize) -> usize
 
 // The first of m steps that equals an earlier one, and m where there is none; their ends are below 64. One word of ends seen for each state has a bit
 // exactly where a step so far has that from and to.
-fn first_doubled(steps: &[u8], m: usize) -> usize
-    requires { ⌜ EndsBelow 64 (now steps) m ⌝ }
-    ensures { λ r. ⌜ r ≡ firstBelow m (doubled (now (steps .entry))) ⌝ }
+fn first_doubled(steps: &[u8], format: Format, m: usize) -> usize
+    requires { ⌜ EndsBelow 64 format (now steps) m ⌝ }
+    ensures { λ r. ⌜ r ≡ firstBelow m (doubled format (now (steps .entry))) ⌝ }
 {
     let mut seen: [Row; Head::MAX_STATES] = [Row::empty(); Head::MAX_STATES];
     let mut j: usize = 0;
     while j < m {
-        let s = from(steps, j);
-        let u = to(steps, j);
+        let s = from(steps, format, j);
+        let u = to(steps, format, j);
         let ends = seen[s];
         if ends.has(u) {
             return j;
@@ -135,25 +173,25 @@ fn first_doubled(steps: &[u8], m: usize) -> usize
 }
 
 // Whether the one step is greater than the other: by from, then by to.
-fn is_greater(steps: &[u8], later: usize, earlier: usize) -> bool
-    ensures { λ r. ⌜ r ≡ greater (now (steps .entry)) later earlier ⌝ }
+fn is_greater(steps: &[u8], format: Format, later: usize, earlier: usize) -> bool
+    ensures { λ r. ⌜ r ≡ greater format (now (steps .entry)) later earlier ⌝ }
 {
-    let s = from(steps, earlier);
-    let t = from(steps, later);
+    let s = from(steps, format, earlier);
+    let t = from(steps, format, later);
     if s == t {
-        return to(steps, earlier) < to(steps, later);
+        return to(steps, format, earlier) < to(steps, format, later);
     }
     s < t
 }
 
 // The first of m steps that is not greater than the one before it, and m where there is none. Step 0 has none before it.
-fn first_not_greater(steps: &[u8], m: usize) -> usize
-    ensures { λ r. ⌜ r ≡ firstBelow m (notGreater (now (steps .entry))) ⌝ }
+fn first_not_greater(steps: &[u8], format: Format, m: usize) -> usize
+    ensures { λ r. ⌜ r ≡ firstBelow m (notGreater format (now (steps .entry))) ⌝ }
 {
     let mut later: usize = 1;
     while later < m {
         let earlier = later - 1;
-        if !is_greater(steps, later, earlier) {
+        if !is_greater(steps, format, later, earlier) {
             return later;
         }
         later += 1;
@@ -161,7 +199,7 @@ fn first_not_greater(steps: &[u8], m: usize) -> usize
     m
 }
 
-// Causes 1 to 8, then 9 or by the version 24: the header of the table, or its refusal.
+// The causes of the header, then 8, then by the format 24 or 9: the header of the table, or its refusal.
 pub fn read_table(s: &[u8]) -> TableRead
     ensures { λ r. ⌜ r ≡ readTable (now (s .entry)) ⌝ }
 {
@@ -169,21 +207,23 @@ pub fn read_table(s: &[u8]) -> TableRead
     let TableRead::Good(head) = read else {
         return read;
     };
+    let format = head.format;
     let steps = steps(s);
-    let outside = first_outside(steps, head.states, head.steps);
+    let outside = first_outside(steps, format, head.states, head.steps);
     if outside < head.steps {
         return TableRead::Refused(TableRefusal::StepEnd(outside));
     }
-    if head.version == Head::ANY_ORDER {
-        let doubled = first_doubled(steps, head.steps);
-        if doubled < head.steps {
-            return TableRead::Refused(TableRefusal::Doubled(doubled));
+    let layout = format.layout();
+    if layout.rising {
+        let late = first_not_greater(steps, format, head.steps);
+        if late < head.steps {
+            return TableRead::Refused(TableRefusal::NotGreater(late));
         }
         return read;
     }
-    let late = first_not_greater(steps, head.steps);
-    if late < head.steps {
-        return TableRead::Refused(TableRefusal::NotGreater(late));
+    let doubled = first_doubled(steps, format, head.steps);
+    if doubled < head.steps {
+        return TableRead::Refused(TableRefusal::Doubled(doubled));
     }
     read
 }

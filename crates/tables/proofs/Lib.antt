@@ -1,2 +1,3 @@
--- An example of what the definitions give.
+-- Layouts, and an example of what the definitions give.
+pub mod LayoutLaws
 pub mod ModelExamples

@@ -1,29 +1,61 @@
--- The system that the bytes of Q give, by computation (document 01, Bench examples): 3 states, start 0, marks 0 0 1, steps 0-1, 1-2, 2-0. Assumes nothing.
+-- The system that the bytes of Q give, by computation (document 01, Bench examples): 3 states, start 0, marks 0 0 1, steps 0-1, 1-2, 2-0; and that of the
+-- same table in version 3 with the starts 0 and 2. Assumes nothing.
 use Prim.Native.Nat.{ℕ}
 use mathlib.Core.Path.{_≡_, refl}
-use mathlib.Core.Bool.{true, false}
-use mathlib.Core.List.{List, [], _∷_}
+use mathlib.Core.Bool.{Bool, true, false}
+use mathlib.Core.List.{List, [], _∷_, _++_}
 use Rattle.lists.specs.Numbers.{bigEndian}
 use Rattle.words.specs.Bits.{hasBit, addBit}
 use Rattle.bisimulation.specs.Systems.{System}
-use Rattle.tables.specs.Table.{statesOf, startOf, stepsOf, initialOf, labelsAt, stepsAt, stepsEnd, labelsPart, stepsPart, labelOf, fromOf, toOf}
+use Rattle.tables.specs.Table.{
+  layoutOf,
+  formatOf,
+  versionOf,
+  formatIn,
+  statesOf,
+  startOf,
+  startsOf,
+  startWord,
+  stepsOf,
+  initialOf,
+  stepsAt,
+  tableLength,
+  labelsPart,
+  stepsPart,
+  labelOf,
+  fromOf,
+  toOf,
+}
 use Rattle.tables.specs.Model.{systemOf}
 
+-- The marks and the steps.
+abbrev marksAndSteps : List ℕ
+marksAndSteps = 0 ∷ 0 ∷ 0 ∷ 0 ∷ 0 ∷ 1 ∷ 0 ∷ 1 ∷ 1 ∷ 2 ∷ 2 ∷ 0 ∷ []
+
 abbrev Q : List ℕ
-Q = 0x54 ∷ 0x50 ∷ 0x54 ∷ 0 ∷ 1 ∷ 3 ∷ 0 ∷ 0 ∷ 3 ∷ 0 ∷ 0 ∷ 0 ∷ 0 ∷ 0 ∷ 1 ∷ 0 ∷ 1 ∷ 1 ∷ 2 ∷ 2 ∷ 0 ∷ []
+Q = (0x54 ∷ 0x50 ∷ 0x54 ∷ 0 ∷ 1 ∷ 3 ∷ 0 ∷ 0 ∷ 3 ∷ []) ++ marksAndSteps
+
+abbrev twoStarts : List ℕ
+twoStarts = (0x54 ∷ 0x50 ∷ 0x54 ∷ 0 ∷ 3 ∷ 3 ∷ 0 ∷ 0 ∷ 0 ∷ 0 ∷ 0 ∷ 0 ∷ 0 ∷ 0x05 ∷ 0 ∷ 3 ∷ []) ++ marksAndSteps
 
 -- The first three values.
 abbrev three : {A : Type 0} → (ℕ → A) → List A
 three f = f 0 ∷ f 1 ∷ f 2 ∷ []
 
-pub record ThreeStates (v : System) : Type 0 where
+pub record ThreeStates (v : System) (initial : List Bool) : Type 0 where
   pub states-are : v .states ≡ 3
   pub steps-are : v .steps ≡ 3
-  pub initial-are : three (v .initial) ≡ true ∷ false ∷ false ∷ []
+  pub initial-are : three (v .initial) ≡ initial
   pub labels-are : three (v .label) ≡ 0 ∷ 0 ∷ 1 ∷ []
   pub from-are : three (v .from) ≡ 0 ∷ 1 ∷ 2 ∷ []
   pub to-are : three (v .to) ≡ 1 ∷ 2 ∷ 0 ∷ []
 
-pub system-Q : ThreeStates (systemOf Q)
-unfolding systemOf statesOf startOf stepsOf initialOf labelsAt stepsAt stepsEnd labelsPart stepsPart labelOf fromOf toOf bigEndian hasBit addBit
+pub system-Q : ThreeStates (systemOf Q) (true ∷ false ∷ false ∷ [])
+unfolding systemOf layoutOf formatOf versionOf formatIn startWord statesOf startOf startsOf stepsOf initialOf stepsAt tableLength labelsPart stepsPart
+    labelOf fromOf toOf bigEndian hasBit addBit
 system-Q = record { states-are = refl; steps-are = refl; initial-are = refl; labels-are = refl; from-are = refl; to-are = refl }
+
+pub system-two-starts : ThreeStates (systemOf twoStarts) (true ∷ false ∷ true ∷ [])
+unfolding systemOf layoutOf formatOf versionOf formatIn startWord statesOf startOf startsOf stepsOf initialOf stepsAt tableLength labelsPart stepsPart
+    labelOf fromOf toOf bigEndian hasBit addBit
+system-two-starts = record { states-are = refl; steps-are = refl; initial-are = refl; labels-are = refl; from-are = refl; to-are = refl }

@@ -4,7 +4,7 @@ use mathlib.Core.Bool.{true}
 use mathlib.Core.List.{List}
 use Rattle.words.specs.Bits.{hasBit}
 use Rattle.bisimulation.specs.Systems.{System}
-use Rattle.tables.specs.Table.{statesOf, stepsOf, initialOf, labelsPart, stepsPart, labelOf, fromOf, toOf}
+use Rattle.tables.specs.Table.{formatIn, statesOf, stepsOf, initialOf, labelsPart, labelOf, fromIn, toIn}
 
 unfoldable pub systemOf : List ℕ → System
 systemOf s =
@@ -12,8 +12,8 @@ systemOf s =
       states = statesOf s;
       steps = stepsOf s;
       initial = hasBit (initialOf s);
-      label = labelOf (labelsPart s);
-      from = fromOf (stepsPart s);
-      to = toOf (stepsPart s);
+      label = labelOf (formatIn s) (labelsPart s);
+      from = fromIn s;
+      to = toIn s;
       silent = λ j. true;
     }

@@ -1,15 +1,14 @@
--- State tables (document 01, Table): where each part stands. Numbers of two bytes have the high byte first.
-use Prim.Native.Nat.{ℕ, _+_, _*_}
+-- State tables (document 01, Table; document 02, Asks 1 and 5): where each part stands. Numbers of two bytes or more have the high byte first.
+use Prim.Native.Nat.{ℕ, _+_, _*_, _%_, _^_}
 use mathlib.Core.List.{List}
-use mathlib.Core.Bool.{Bool, _&&_}
+use mathlib.Core.Bool.{Bool, true, false, cond, _&&_}
 use lib.Dec.{eqb}
 use Rattle.lists.specs.Lists.{part}
 use Rattle.lists.specs.Numbers.{byteAt, bigEndian}
 use Rattle.words.specs.Bits.{addBit}
-
--- The bytes of the header.
-abbrev pub headerLength : ℕ
-headerLength = 9
+use Rattle.tables.specs.declared.Format.{Format}
+use Rattle.tables.specs.declared.Format.the-variants.{Version1, Version2, Version3}
+use Rattle.tables.specs.declared.Layout.{Layout}
 
 -- The limits: n is 1 to 64, m is 0 to 256.
 abbrev pub maxStates : ℕ
@@ -18,65 +17,98 @@ maxStates = 64
 abbrev pub maxSteps : ℕ
 maxSteps = 256
 
+-- ---- the formats
+
+-- The bytes of a header with one start, and of one with a start word.
+abbrev pub startHeader : ℕ
+startHeader = 9
+
+abbrev pub wordHeader : ℕ
+wordHeader = 16
+
+-- What a format's layout is: the bytes of the header, whether the starts are a word, where m stands, the bytes of a mark and of a step, and whether the steps
+-- rise. Version 1 has one start, and its steps may stand in any order; those of version 2 rise; version 3 has a start word besides.
+unfoldable pub layoutOf : Format → Layout
+layoutOf Version1 = record { header = startHeader; word = false; count = 7; label = 2; step = 2; rising = false }
+layoutOf Version2 = record { header = startHeader; word = false; count = 7; label = 2; step = 2; rising = true }
+layoutOf Version3 = record { header = wordHeader; word = true; count = 14; label = 2; step = 2; rising = true }
+
+-- The last version; the first is 1.
+abbrev pub lastVersion : ℕ
+lastVersion = 3
+
+-- The format of a version. A number that is no version, which 3 turns away, counts as the last.
+unfoldable pub formatOf : ℕ → Format
+formatOf version = cond (eqb version 1) Version1 (cond (eqb version 2) Version2 Version3)
+
+-- ---- the header
+
 -- Bytes 0 to 2: "TP" and a third, which is "T" for a table.
 unfoldable pub magicFits : ℕ → List ℕ → Bool
 magicFits third s = eqb (byteAt s 0) 0x54 && eqb (byteAt s 1) 0x50 && eqb (byteAt s 2) third
 
--- The last version; the first is 1.
-abbrev pub lastVersion : ℕ
-lastVersion = 2
-
--- The version whose steps may stand in any order; those of the others rise.
-abbrev pub anyOrder : ℕ
-anyOrder = 1
-
--- Bytes 3, 4: version.
+-- Bytes 3, 4: version. It gives the format, and the format the layout.
 unfoldable pub versionOf : List ℕ → ℕ
 versionOf s = bigEndian s 3 2
+
+unfoldable pub formatIn : List ℕ → Format
+formatIn s = formatOf (versionOf s)
+
+abbrev pub layoutIn : List ℕ → Layout
+layoutIn s = layoutOf (formatIn s)
 
 -- Byte 5: n, states.
 unfoldable pub statesOf : List ℕ → ℕ
 statesOf s = byteAt s 5
 
--- Byte 6: start.
+-- Byte 6: start. In place of it, bytes 6 to 13: the 64-bit word of starts. Of a list whose numbers are no bytes the low 64 bits count.
 unfoldable pub startOf : List ℕ → ℕ
 startOf s = byteAt s 6
 
--- Bytes 7, 8: m, steps.
-unfoldable pub stepsOf : List ℕ → ℕ
-stepsOf s = bigEndian s 7 2
+unfoldable pub startsOf : List ℕ → ℕ
+startsOf s = bigEndian s 6 8 % 2 ^ 64
 
--- The set of initial states, as a word: the start alone.
+-- Whether the file has a start word, by its version.
+unfoldable pub startWord : List ℕ → Bool
+startWord s = layoutIn s .word
+
+-- The set of initial states, as a word: the start word, or the start alone.
 unfoldable pub initialOf : List ℕ → ℕ
-initialOf s = addBit 0 (startOf s)
+initialOf s = cond (startWord s) (startsOf s) (addBit 0 (startOf s))
 
--- Length exactly 9 + 2n + 2m.
-unfoldable pub tableLength : ℕ → ℕ → ℕ
-tableLength n m = headerLength + n * 2 + m * 2
+-- Two bytes: m, steps. They are the last of the header.
+unfoldable pub stepsOf : List ℕ → ℕ
+stepsOf s = bigEndian s (layoutIn s .count) 2
 
--- Then n marks of 16 bits, then m steps of two bytes: where each begins, and where the last ends.
-unfoldable pub labelsAt : List ℕ → ℕ
-labelsAt s = headerLength
+-- ---- the two parts after it
 
+-- After the header n marks, then m steps. Where the steps begin, and the length of it all.
 unfoldable pub stepsAt : List ℕ → ℕ
-stepsAt s = labelsAt s + statesOf s * 2
+stepsAt s = layoutIn s .header + statesOf s * layoutIn s .label
 
-unfoldable pub stepsEnd : List ℕ → ℕ
-stepsEnd s = stepsAt s + stepsOf s * 2
+unfoldable pub tableLength : List ℕ → ℕ
+tableLength s = stepsAt s + stepsOf s * layoutIn s .step
 
 -- The parts of the file that hold the labels and the steps; each starts in the middle of the file.
 unfoldable pub labelsPart : List ℕ → List ℕ
-labelsPart s = part s (labelsAt s) (stepsAt s)
+labelsPart s = part s (layoutIn s .header) (stepsAt s)
 
 unfoldable pub stepsPart : List ℕ → List ℕ
-stepsPart s = part s (stepsAt s) (stepsEnd s)
+stepsPart s = part s (stepsAt s) (tableLength s)
 
 -- Of the labels' part, the label of a state; of the steps' part, the states that step j leaves and enters.
-unfoldable pub labelOf : List ℕ → ℕ → ℕ
-labelOf labels state = bigEndian labels (state * 2) 2
+unfoldable pub labelOf : Format → List ℕ → ℕ → ℕ
+labelOf f labels state = bigEndian labels (state * layoutOf f .label) (layoutOf f .label)
 
-unfoldable pub fromOf : List ℕ → ℕ → ℕ
-fromOf steps j = byteAt steps (j * 2)
+unfoldable pub fromOf : Format → List ℕ → ℕ → ℕ
+fromOf f steps j = byteAt steps (j * layoutOf f .step)
 
-unfoldable pub toOf : List ℕ → ℕ → ℕ
-toOf steps j = byteAt steps (j * 2 + 1)
+unfoldable pub toOf : Format → List ℕ → ℕ → ℕ
+toOf f steps j = byteAt steps (j * layoutOf f .step + 1)
+
+-- Of the whole file, the states that step j leaves and enters.
+abbrev pub fromIn : List ℕ → ℕ → ℕ
+fromIn s = fromOf (formatIn s) (stepsPart s)
+
+abbrev pub toIn : List ℕ → ℕ → ℕ
+toIn s = toOf (formatIn s) (stepsPart s)

@@ -1,35 +1,111 @@
 // State tables: where each field of a file lies, and reading one. For every byte string, whether or not it is a good table.
 use lists::byte;
 use lists::part_of;
+use lists::read_be;
 use lists::read_be16;
 use words::Row;
 ghost use mathlib.Core.Path.{_≡_};
 ghost use Prim.Native.Nat.{_<_};
-ghost use Rattle.tables.specs.Table.{statesOf, stepsOf, labelsPart, stepsPart, labelOf, fromOf, toOf};
+ghost use Rattle.tables.specs.Table.{formatOf, layoutOf, versionOf, formatIn, statesOf, startOf, startsOf, initialOf, stepsOf};
+ghost use Rattle.tables.specs.Table.{stepsAt, tableLength, labelsPart, stepsPart, labelOf, fromOf, toOf};
+
+// The format of a table, by its version.
+pub enum Format {
+    Version1,
+    Version2,
+    Version3,
+}
+
+// Where the fields of a format stand and how wide they are. The first six bytes are the same in all, and the starts follow them.
+pub struct Layout {
+    // The bytes of the header.
+    pub header: usize,
+    // Whether the starts are a word of 8 bytes, and not the byte of one start.
+    pub word: bool,
+    // Where the number of steps stands.
+    pub count: usize,
+    // The bytes of a label and of a step.
+    pub label: usize,
+    pub step: usize,
+    // Whether the steps rise; otherwise they may stand in any order.
+    pub rising: bool,
+}
 
 // What the header of a good table says; `initial` is the set of initial states.
 pub struct Head {
-    pub version: usize,
+    pub format: Format,
     pub states: usize,
     pub steps: usize,
     pub initial: Row,
 }
 
-impl Head {
-    // The bytes of the header.
-    pub const BYTES: usize = 9;
+impl Layout {
+    // The bytes of a header with one start, and of one with a start word.
+    pub const ONE_START: usize = 9;
 
+    pub const START_WORD: usize = 16;
+
+    // Where the starts stand.
+    pub const STARTS: usize = 6;
+}
+
+impl Format {
+    // The last version that is read; the first is 1.
+    pub const LAST_VERSION: usize = 3;
+
+    // The format of a version; a number that is no version counts as the last.
+    pub fn of(version: usize) -> Self
+        ensures { λ r. ⌜ r ≡ formatOf version ⌝ }
+    {
+        if version == 1 {
+            return Format::Version1;
+        }
+        if version == 2 {
+            return Format::Version2;
+        }
+        Format::Version3
+    }
+
+    // The layout of the format.
+    pub fn layout(self) -> Layout
+        ensures { λ r. ⌜ r ≡ layoutOf self ⌝ }
+    {
+        let format = self;
+        match format {
+            Format::Version1 => Layout {
+                header: Layout::ONE_START,
+                word: false,
+                count: 7,
+                label: 2,
+                step: 2,
+                rising: false,
+            },
+            Format::Version2 => Layout {
+                header: Layout::ONE_START,
+                word: false,
+                count: 7,
+                label: 2,
+                step: 2,
+                rising: true,
+            },
+            Format::Version3 => Layout {
+                header: Layout::START_WORD,
+                word: true,
+                count: 14,
+                label: 2,
+                step: 2,
+                rising: true,
+            },
+        }
+    }
+}
+
+impl Head {
     // The most states of a table.
     pub const MAX_STATES: usize = 64;
 
     // The most steps of a table.
     pub const MAX_STEPS: usize = 256;
-
-    // The last version that is read; the first is 1.
-    pub const LAST_VERSION: u64 = 2;
-
-    // The version whose steps may stand in any order; in the others they rise.
-    pub const ANY_ORDER: usize = 1;
 
     // The first byte of a table and of a certificate, "T".
     pub const MAGIC_1: usize = 0x54;
@@ -41,6 +117,20 @@ impl Head {
     pub const TABLE: usize = 0x54;
 }
 
+// The version that the header gives.
+pub fn version(s: &[u8]) -> usize
+    ensures { λ r. ⌜ r ≡ versionOf (now (s .entry)) ⌝ }
+{
+    read_be16(s, 3) as usize
+}
+
+// The format of a file, by its version.
+pub fn format_of(s: &[u8]) -> Format
+    ensures { λ r. ⌜ r ≡ formatIn (now (s .entry)) ⌝ }
+{
+    Format::of(version(s))
+}
+
 // The number of states that the header gives.
 pub fn states(s: &[u8]) -> usize
     ensures value { λ r. ⌜ r ≡ statesOf (now (s .entry)) ⌝ }
@@ -49,20 +139,65 @@ pub fn states(s: &[u8]) -> usize
     byte(s, 5)
 }
 
+// The start that a header without a start word gives.
+pub fn start(s: &[u8]) -> usize
+    ensures { λ r. ⌜ r ≡ startOf (now (s .entry)) ⌝ }
+{
+    byte(s, Layout::STARTS)
+}
+
+// The start word, as a set of states.
+pub fn starts(s: &[u8]) -> Row
+    ensures { λ r. ⌜ r .0 ≡ startsOf (now (s .entry)) ⌝ }
+{
+    Row::read(s, Layout::STARTS)
+}
+
+// The set of initial states: the start word, or the one start.
+pub fn initial(s: &[u8]) -> Row
+    ensures { λ r. ⌜ r .0 ≡ initialOf (now (s .entry)) ⌝ }
+{
+    let layout = format_of(s).layout();
+    if layout.word {
+        return starts(s);
+    }
+    let none = Row::empty();
+    none.add(start(s))
+}
+
 // The number of steps that the header gives.
 pub fn step_count(s: &[u8]) -> usize
     ensures value { λ r. ⌜ r ≡ stepsOf (now (s .entry)) ⌝ }
     ensures small { λ r. ⌜ r < 65536 ⌝ }
 {
-    read_be16(s, 7) as usize
+    let layout = format_of(s).layout();
+    read_be16(s, layout.count) as usize
+}
+
+// Where the steps begin, after the header and the labels.
+fn steps_at(s: &[u8]) -> usize
+    ensures value { λ r. ⌜ r ≡ stepsAt (now (s .entry)) ⌝ }
+    ensures small { λ r. ⌜ r < 65536 ⌝ }
+{
+    let layout = format_of(s).layout();
+    layout.header + states(s) * layout.label
+}
+
+// The length that a table with this header has: the header, the labels and the steps.
+pub fn table_length(s: &[u8]) -> usize
+    ensures { λ r. ⌜ r ≡ tableLength (now (s .entry)) ⌝ }
+{
+    let layout = format_of(s).layout();
+    steps_at(s) + step_count(s) * layout.step
 }
 
 // The labels of a table, as the part of the file that holds them.
 pub fn labels(s: &[u8]) -> &[u8]
     ensures { λ r. ⌜ now r ≡ labelsPart (now (s .entry)) ⌝ }
 {
-    let a = Head::BYTES;
-    let e = a + states(s) * 2;
+    let layout = format_of(s).layout();
+    let a = layout.header;
+    let e = steps_at(s);
     part_of(s, a, e)
 }
 
@@ -70,40 +205,42 @@ pub fn labels(s: &[u8]) -> &[u8]
 pub fn steps(s: &[u8]) -> &[u8]
     ensures { λ r. ⌜ now r ≡ stepsPart (now (s .entry)) ⌝ }
 {
-    let a = Head::BYTES + states(s) * 2;
-    let e = a + step_count(s) * 2;
+    let a = steps_at(s);
+    let e = table_length(s);
     part_of(s, a, e)
 }
 
-// The label of a state, from the part that holds the labels; 0 past the end.
-pub fn label(labels: &[u8], state: usize) -> u64
-    ensures value { λ r. ⌜ r ≡ labelOf (now (labels .entry)) state ⌝ }
-    ensures small { λ r. ⌜ r < 65536 ⌝ }
+// The label of a state, from the part that holds the labels; 0 past the end. A label has two bytes or more.
+pub fn label(labels: &[u8], format: Format, state: usize) -> u64
+    ensures { λ r. ⌜ r ≡ labelOf format (now (labels .entry)) state ⌝ }
 {
+    let layout = format.layout();
     if labels.len() / 2 < state {
         return 0;
     }
-    read_be16(labels, state * 2)
+    read_be(labels, state * layout.label, layout.label)
 }
 
-// The state that step j leaves, from the part that holds the steps; 0 past the end.
-pub fn from(steps: &[u8], j: usize) -> usize
-    ensures value { λ r. ⌜ r ≡ fromOf (now (steps .entry)) j ⌝ }
+// The state that step j leaves, from the part that holds the steps; 0 past the end. A step has two bytes or more.
+pub fn from(steps: &[u8], format: Format, j: usize) -> usize
+    ensures value { λ r. ⌜ r ≡ fromOf format (now (steps .entry)) j ⌝ }
     ensures small { λ r. ⌜ r < 256 ⌝ }
 {
+    let layout = format.layout();
     if steps.len() / 2 < j {
         return 0;
     }
-    byte(steps, j * 2)
+    byte(steps, j * layout.step)
 }
 
 // The state that step j enters, from the part that holds the steps; 0 past the end.
-pub fn to(steps: &[u8], j: usize) -> usize
-    ensures value { λ r. ⌜ r ≡ toOf (now (steps .entry)) j ⌝ }
+pub fn to(steps: &[u8], format: Format, j: usize) -> usize
+    ensures value { λ r. ⌜ r ≡ toOf format (now (steps .entry)) j ⌝ }
     ensures small { λ r. ⌜ r < 256 ⌝ }
 {
+    let layout = format.layout();
     if steps.len() / 2 <= j {
         return 0;
     }
-    byte(steps, j * 2 + 1)
+    byte(steps, j * layout.step + 1)
 }

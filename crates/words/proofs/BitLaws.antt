@@ -4,7 +4,7 @@ use Prim.Native.Nat.{ℕ, zero, suc, _+_, _*_, _/_, _%_, _^_, _-_, _≤_, _<_, z
 use mathlib.Core.Path.{_≡_, refl, sym, ap, ap₂, _∙_, subst}
 use mathlib.Core.Logic.{⊎-elim}
 use mathlib.Core.List.{List}
-use mathlib.Core.Bool.{Bool, true, false, cond, not, _&&_, _||_, false≢true}
+use mathlib.Core.Bool.{Bool, true, false, cond, not, _&&_, _||_, and-comm, false≢true}
 use native.Mathlib.Nat.{
   div-one,
   div-eq-of-lt,
@@ -39,7 +39,7 @@ use Rattle.lists.proofs.BoolLaws.{and-l, and-r, and-i, T-dec, T-true, not-T-fal
 use Rattle.lists.proofs.BelowLaws as below
 use Rattle.lists.proofs.FillLaws.{put-front-fits}
 use Rattle.lists.proofs.NumberLaws.{length-bytes, bytes-back}
-use Rattle.words.specs.Bits.{hasBit, hasFrom, addBit, removeBit, countBits, firstBit}
+use Rattle.words.specs.Bits.{hasBit, hasFrom, addBit, removeBit, withoutBits, countBits, firstBit}
 
 two-pos : zero < 2
 two-pos = zero-lt-suc 1
@@ -158,6 +158,13 @@ has-remove x t u h = go (ltb t 64) refl
         ∙ cleared (hasBit x u) (eqb u t)
     go false e = stays (eqb u t) refl (ltb-false t 64 e)
 
+-- the bits of the first word that the second has not
+pub has-without : (x y u : ℕ) → hasBit (withoutBits x y) u ≡ (hasBit x u && not (hasBit y u))
+unfolding withoutBits
+has-without x y u =
+    has-xor x (bitAnd x y) u ∙ ap (differs (hasBit x u)) (has-both x y u) ∙ cleared (hasBit x u) (hasBit y u)
+    ∙ and-comm (not (hasBit y u)) (hasBit x u)
+
 -- ---- the results are words
 
 pub add-word : (x t : ℕ) → x < 2 ^ 64 → addBit x t < 2 ^ 64
@@ -175,6 +182,10 @@ remove-word x t h = go (ltb t 64)
     go : (b : Bool) → cond b (bitXor x (bitAnd x (2 ^ t))) x < 2 ^ 64
     go true = xor-lt 64 x (bitAnd x (2 ^ t)) h (lt-of-le-of-lt (and-le-l x (2 ^ t)) h)
     go false = h
+
+pub without-word : (x y : ℕ) → x < 2 ^ 64 → withoutBits x y < 2 ^ 64
+unfolding withoutBits
+without-word x y h = xor-lt 64 x (bitAnd x y) h (lt-of-le-of-lt (and-le-l x y) h)
 
 pub both-word : (x y : ℕ) → x < 2 ^ 64 → bitAnd x y < 2 ^ 64
 both-word x y h = lt-of-le-of-lt (and-le-l x y) h

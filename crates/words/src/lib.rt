@@ -1,9 +1,10 @@
 // A set of states below 64, as the bits of a word.
 ghost use mathlib.Core.Path.{_≡_};
 ghost use lib.Bits.{bitAnd};
+ghost use lib.Dec.{eqb};
 ghost use Rattle.lists.specs.Numbers.{bigEndian, bigBytes};
 ghost use Rattle.lists.specs.Lists.{putFront};
-ghost use Rattle.words.specs.Bits.{hasBit, hasFrom, addBit, removeBit, countBits, firstBit};
+ghost use Rattle.words.specs.Bits.{hasBit, hasFrom, addBit, removeBit, withoutBits, countBits, firstBit};
 
 // A set of states: state t is in it where the word has the bit of weight 2 to the power t.
 pub struct Row(pub u64);
@@ -14,6 +15,13 @@ impl Row {
         ensures { λ r. ⌜ r .0 ≡ 0 ⌝ }
     {
         Row(0)
+    }
+
+    // Whether no state is in the set.
+    pub fn is_empty(self) -> bool
+        ensures { λ r. ⌜ r ≡ eqb (self .0) 0 ⌝ }
+    {
+        self.0 == 0
     }
 
     // Whether state t is in the set.
@@ -58,6 +66,13 @@ impl Row {
         ensures { λ r. ⌜ r .0 ≡ bitAnd (self .0) (other .0) ⌝ }
     {
         Row(self.0 & other.0)
+    }
+
+    // The states of the set that are not in the other.
+    pub fn without(self, other: Row) -> Self
+        ensures { λ r. ⌜ r .0 ≡ withoutBits (self .0) (other .0) ⌝ }
+    {
+        Row(self.0 ^ (self.0 & other.0))
     }
 
     // How many states are in the set.

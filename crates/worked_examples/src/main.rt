@@ -1,6 +1,6 @@
 // Runs the readers, the judge and the maker on the cases of standard input, edges and examples of documents 01 and 02, and prints what they say, a line
 // each: the case in words, then six numbers. A refusal prints its six numbers, as do the judge and the maker. A table that is read prints 0 0, its
-// states, its steps, its version and its initial state; a certificate or a relation that is read prints 0 0 and its four sizes.
+// states, its steps, its version and its smallest initial state; a certificate or a relation that is read prints 0 0 and its four sizes.
 //
 // A case is a line: what it is in words and a colon, a letter that says what is shown, and up to three files as hexadecimal digits. The first two are
 // the tables, of which a certificate, a relation and the offsets need the headers alone; the third is a certificate or a relation. The letters:
@@ -84,7 +84,7 @@ fn show_table(s: &[u8], file: usize) {
     match read {
         TableRead::Good(head) => {
             let initial = head.initial;
-            print_good(head.states, head.steps, head.version, initial.first());
+            print_good(head.states, head.steps, tables::version(s), initial.first());
         }
         TableRead::Refused(refusal) => print_answer(refusal.answer(file)),
     }
@@ -131,11 +131,12 @@ fn show_layout(sizes: Sizes) {
 
 // The labels of three states and of one past the end.
 fn show_labels(table: &[u8]) {
+    let format = tables::format_of(table);
     let labels = tables::labels(table);
-    let first = tables::label(labels, 0);
-    let second = tables::label(labels, 1);
-    let third = tables::label(labels, 2);
-    let last = tables::label(labels, 18446744073709551615);
+    let first = tables::label(labels, format, 0);
+    let second = tables::label(labels, format, 1);
+    let third = tables::label(labels, format, 2);
+    let last = tables::label(labels, format, 18446744073709551615);
     print_good(
         first as usize,
         second as usize,
@@ -146,11 +147,12 @@ fn show_labels(table: &[u8]) {
 
 // The ends of two steps.
 fn show_steps(table: &[u8], j: usize, k: usize) {
+    let format = tables::format_of(table);
     let steps = tables::steps(table);
-    let from = tables::from(steps, j);
-    let to = tables::to(steps, j);
-    let next_from = tables::from(steps, k);
-    let next_to = tables::to(steps, k);
+    let from = tables::from(steps, format, j);
+    let to = tables::to(steps, format, j);
+    let next_from = tables::from(steps, format, k);
+    let next_to = tables::to(steps, format, k);
     print_good(from, to, next_from, next_to);
 }
 

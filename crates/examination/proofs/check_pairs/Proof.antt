@@ -8,7 +8,7 @@ use denote.Ref.{now}
 use Rattle.answers.specs.Verdicts.{passed}
 use Rattle.sides.specs.Side.{systemIn}
 use Rattle.examination.specs.Walk.{rowIn}
-use Rattle.examination.proofs.CheckedLaws.{was-passed}
+use Rattle.answers.proofs.CheckedLaws.{was-passed}
 use Rattle.examination.proofs.PairLaws.{rows-stop, rows-pass}
 use borrow.Author.Needs.{needs}
 use Rattle.examination.proofs.check_pairs.Statement.{statement}

@@ -6,7 +6,7 @@ use denote.Ref.{now}
 use Rattle.words.specs.Bits.{firstBit}
 use Rattle.sides.specs.Side.{systemIn, relatedTo}
 use Rattle.examination.specs.Walk.{pairIn}
-use Rattle.examination.proofs.CheckedLaws.{was-passed}
+use Rattle.answers.proofs.CheckedLaws.{was-passed}
 use Rattle.examination.proofs.WordLaws.{InWord, word-start, next-greater, word-next}
 use Rattle.examination.proofs.PairLaws.{row-stops, row-passes}
 use borrow.Author.Needs.{needs}

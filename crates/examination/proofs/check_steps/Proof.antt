@@ -5,12 +5,11 @@ use mathlib.Core.Bool.{Bool}
 use native.Mathlib.Omega.{arith}
 use borrow.Author.Tests.{not-true, not-false}
 use denote.Ref.{now}
-use Rattle.answers.specs.Verdicts.{passIf, firstIn}
+use Rattle.answers.specs.Verdicts.{passIf, firstIn, asChecked}
 use Rattle.sides.specs.Side.{stepsIn}
 use Rattle.sides.proofs.WalkLaws.{next-later, next-none}
 use Rattle.obligations.specs.CheckAnswers.{placeAnswer}
-use Rattle.obligations.specs.OnSides.{asChecked}
-use Rattle.obligations.specs.declared.Checked.the-variants.{Refused}
+use Rattle.answers.specs.declared.Checked.the-variants.{Refused}
 use Rattle.examination.specs.Walk.{stepVerdictIn}
 use Rattle.examination.proofs.StepLaws.{onward, steps-start, step-passes, step-refuses, steps-end}
 use borrow.Author.Needs.{needs}

@@ -6,6 +6,7 @@ use native.Mathlib.Omega.{arith}
 use denote.Ref.{now}
 use Rattle.lists.specs.Lists.{tabulate}
 use Rattle.words.specs.Bits.{addBit}
+use Rattle.tables.specs.Table.{labelOf, fromOf, toOf}
 use Rattle.sides.specs.Side.{systemIn}
 use Rattle.sides.specs.Building.{StatesIn, EndsIn, LinksIn}
 use Rattle.sides.proofs.BuildLaws.{StatesUpTo, states-start, states-next, states-last, ends-start, ends-next, ends-count, unlinked, side-is}
@@ -15,16 +16,16 @@ use Rattle.sides.proofs.side_of.Statement.{statement}
 use Rattle.sides.proofs.side_of.Tie as tie
 
 abbrev Inv-loop : tie.InvT-loop
-Inv-loop head labels steps words side₀ s₀ side s = StatesUpTo labels words s side
+Inv-loop head labels steps words format side₀ s₀ side s = StatesUpTo (labelOf format labels) words s side
 
 abbrev μ-loop : tie.MeasureT-loop
-μ-loop head labels steps words side₀ s₀ side s = 64 - s
+μ-loop head labels steps words format side₀ s₀ side s = 64 - s
 
 abbrev Inv-loop2 : tie.InvT-loop2
-Inv-loop2 labels steps words side₀ s m j₀ side j = EndsIn steps side₀ j side × (j ≤ m) × (m ≤ 256)
+Inv-loop2 labels steps words format side₀ s m j₀ side j = EndsIn (fromOf format steps) (toOf format steps) side₀ j side × (j ≤ m) × (m ≤ 256)
 
 abbrev μ-loop2 : tie.MeasureT-loop2
-μ-loop2 labels steps words side₀ s m j₀ side j = m - j
+μ-loop2 labels steps words format side₀ s m j₀ side j = m - j
 
 abbrev Inv-loop3 : tie.InvT-loop3
 Inv-loop3 labels steps words side₀ s m j₀ side j = LinksIn side₀ j side × (j ≤ systemIn side₀ .steps)
@@ -66,7 +67,7 @@ loop-again c =
     let l = c .before .before .before .before .before .before .before .before .before .loop in
     let put2 = c .before .before .before in
     let put = put2 .before .before in
-    states-next (l .inv) (omega arith) refl (c .before .label .ensures .0) (put .put .ensures) (put2 .put2 .ensures)
+    states-next (l .inv) (omega arith) refl (c .before .label .ensures) (put .put .ensures) (put2 .put2 .ensures)
     (c .put3 .ensures)
 
 put-requires-4 : tie.Need-put-requires-4 Inv-loop μ-loop Inv-loop2 μ-loop2 Inv-loop3 μ-loop3
@@ -78,37 +79,45 @@ put-requires-5 c κs = search needs
 put-requires-6 : tie.Need-put-requires-6 Inv-loop μ-loop Inv-loop2 μ-loop2 Inv-loop3 μ-loop3
 put-requires-6 c κs = search needs
 
+start-word-requires : tie.Need-start-word-requires Inv-loop μ-loop Inv-loop2 μ-loop2 Inv-loop3 μ-loop3
+start-word-requires c κs = search needs
+
+put-requires-7 : tie.Need-put-requires-7 Inv-loop μ-loop Inv-loop2 μ-loop2 Inv-loop3 μ-loop3
+put-requires-7 c κs = search needs
+
 at-most-requires : tie.Need-at-most-requires Inv-loop μ-loop Inv-loop2 μ-loop2 Inv-loop3 μ-loop3
 at-most-requires c κs = search needs
 
 -- header and states are there
-states-in : (c : tie.After-put6 Inv-loop μ-loop Inv-loop2 μ-loop2 Inv-loop3 μ-loop3)
-    → let a = c .before .before .before .before .before .before .before .before .before .before .args in
-    StatesIn (a .head) (now (a .labels)) (now (a .words)) (c .put6 .last .0)
+states-in : (c : tie.After-put7 Inv-loop μ-loop Inv-loop2 μ-loop2 Inv-loop3 μ-loop3)
+    → let a = c .before .before .before .before .before .before .before .before .before .before .before .before .before .args in
+    StatesIn (a .head) (now (a .labels)) (now (a .words)) (c .put7 .last .0)
 states-in c =
-    let a = c .before .before .before .before .before .before .before .before .before .before .args in
-    let put5 = c .before .before in
+    let a = c .before .before .before .before .before .before .before .before .before .before .before .before .before .args in
+    let put6 = c .before .before .before in
+    let put5 = put6 .before .before in
     let put4 = put5 .before .before in
     let test = put4 .before .before in
-    states-last (a .head) (test .before .loop .inv) (test .loop-test .left) (put4 .put4 .ensures) (put5 .put5 .ensures) (c .put6 .ensures)
+    states-last (a .head) (now (a .labels)) (test .before .loop .inv) (test .loop-test .left) (c .before .start-word .ensures)
+    (put4 .put4 .ensures) (put5 .put5 .ensures) (put6 .put6 .ensures) (c .put7 .ensures)
 
 loop2-holds : tie.Need-loop2-holds Inv-loop μ-loop Inv-loop2 μ-loop2 Inv-loop3 μ-loop3
 loop2-holds c =
     let last = c .before in
     let states = states-in last in
-    (ends-start _ (states .room) (states .no-from) (states .no-to), omega arith, rw (c .at-most .ensures) (min-le-right _ _))
+    (ends-start _ _ (states .room) (states .no-from) (states .no-to), omega arith, rw (c .at-most .ensures) (min-le-right _ _))
 
 from-requires : tie.Need-from-requires Inv-loop μ-loop Inv-loop2 μ-loop2 Inv-loop3 μ-loop3
 from-requires c κs = search needs
 
-put-requires-7 : tie.Need-put-requires-7 Inv-loop μ-loop Inv-loop2 μ-loop2 Inv-loop3 μ-loop3
-put-requires-7 c κs = search needs
+put-requires-8 : tie.Need-put-requires-8 Inv-loop μ-loop Inv-loop2 μ-loop2 Inv-loop3 μ-loop3
+put-requires-8 c κs = search needs
 
 to-requires : tie.Need-to-requires Inv-loop μ-loop Inv-loop2 μ-loop2 Inv-loop3 μ-loop3
 to-requires c κs = search needs
 
-put-requires-8 : tie.Need-put-requires-8 Inv-loop μ-loop Inv-loop2 μ-loop2 Inv-loop3 μ-loop3
-put-requires-8 c κs = search needs
+put-requires-9 : tie.Need-put-requires-9 Inv-loop μ-loop Inv-loop2 μ-loop2 Inv-loop3 μ-loop3
+put-requires-9 c κs = search needs
 
 add-j : tie.Need-add-j Inv-loop μ-loop Inv-loop2 μ-loop2 Inv-loop3 μ-loop3
 add-j c = search needs
@@ -121,7 +130,7 @@ loop2-again c =
     let l = c .before .before .before .before .before .before .before .loop2 in
     let w = l .inv in
     let from = c .before .before .before .before .from .ensures .0 in
-    (ends-next (w .0) (omega arith) from (c .before .to .ensures .0) (c .before .before .before .put7 .ensures) (c .put8 .ensures), omega arith, w .2)
+    (ends-next (w .0) (omega arith) from (c .before .to .ensures .0) (c .before .before .before .put8 .ensures) (c .put9 .ensures), omega arith, w .2)
 
 loop3-holds : tie.Need-loop3-holds Inv-loop μ-loop Inv-loop2 μ-loop2 Inv-loop3 μ-loop3
 loop3-holds c =
@@ -150,14 +159,14 @@ to-requires-2 c κs = search needs
 add-requires : tie.Need-add-requires Inv-loop μ-loop Inv-loop2 μ-loop2 Inv-loop3 μ-loop3
 add-requires c κs = search needs
 
-put-requires-9 : tie.Need-put-requires-9 Inv-loop μ-loop Inv-loop2 μ-loop2 Inv-loop3 μ-loop3
-put-requires-9 c κs = search needs
-
 put-requires-10 : tie.Need-put-requires-10 Inv-loop μ-loop Inv-loop2 μ-loop2 Inv-loop3 μ-loop3
 put-requires-10 c κs = search needs
 
 put-requires-11 : tie.Need-put-requires-11 Inv-loop μ-loop Inv-loop2 μ-loop2 Inv-loop3 μ-loop3
 put-requires-11 c κs = search needs
+
+put-requires-12 : tie.Need-put-requires-12 Inv-loop μ-loop Inv-loop2 μ-loop2 Inv-loop3 μ-loop3
+put-requires-12 c κs = search needs
 
 loop3-less : tie.Need-loop3-less Inv-loop μ-loop Inv-loop2 μ-loop2 Inv-loop3 μ-loop3
 loop3-less c = search needs
@@ -171,7 +180,7 @@ loop3-again c =
     let l = from .before .before .before .loop3 in
     let word = c .before .before .before .before .before .before .add .ensures ∙ ap (λ (y : ℕ). addBit y (to .to2 .result)) (entered .entered .ensures .0) in (
       links-next (l .inv .0) (omega arith) (l .inv .1) refl (from .from2 .ensures) (to .to2 .ensures) word (first .first .ensures)
-          (c .before .before .before .before .put9 .ensures) (c .before .before .put10 .ensures) (c .put11 .ensures),
+          (c .before .before .before .before .put10 .ensures) (c .before .before .put11 .ensures) (c .put12 .ensures),
       omega arith,
     )
 
@@ -208,12 +217,14 @@ side-of-spec =
     put-requires-4
     put-requires-5
     put-requires-6
+    start-word-requires
+    put-requires-7
     at-most-requires
     loop2-holds
     from-requires
-    put-requires-7
-    to-requires
     put-requires-8
+    to-requires
+    put-requires-9
     add-j
     loop2-less
     loop2-again
@@ -224,9 +235,9 @@ side-of-spec =
     entered-requires
     to-requires-2
     add-requires
-    put-requires-9
     put-requires-10
     put-requires-11
+    put-requires-12
     loop3-less
     loop3-again
     returns)

@@ -13,10 +13,11 @@ use Rattle.table_reader.proofs.first_doubled.Statement.{statement}
 use Rattle.table_reader.proofs.first_doubled.Tie as tie
 
 abbrev Inv-loop : tie.InvT-loop
-Inv-loop steps m seen₀ j₀ seen j = (j ≤ m) × (firstBelow j (doubled steps) ≡ j) × EndsSeen (fromOf steps) (toOf steps) j seen
+Inv-loop steps format m seen₀ j₀ seen j =
+    (j ≤ m) × (firstBelow j (doubled format steps) ≡ j) × EndsSeen (fromOf format steps) (toOf format steps) j seen
 
 abbrev μ-loop : tie.MeasureT-loop
-μ-loop steps m seen₀ j₀ seen j = m - j
+μ-loop steps format m seen₀ j₀ seen j = m - j
 
 -- the ends of the step are below 64
 inside : (c : tie.After-to Inv-loop μ-loop) → (c .before .from .result < 64) × (c .to .result < 64)
@@ -51,7 +52,7 @@ returns c =
     let s = c .before .before .before .before .from .ensures .0 in
     let u = c .before .before .before .to .ensures .0 in
     let m = c .before .before .before .before .before .before .before .before .before .args .m in
-    let d = seen-doubled _ (l .j) (l .inv .2) s u (inside (c .before .before .before) .0) in
+    let d = seen-doubled _ _ (l .j) (l .inv .2) s u (inside (c .before .before .before) .0) in
     sym (first-hit _ (l .j) m (l .inv .1) (omega arith) (d ∙ sym (c .before .has .ensures) ∙ c .if1 .taken))
 
 add-requires : tie.Need-add-requires Inv-loop μ-loop
@@ -75,7 +76,7 @@ loop-again c =
     let s = c .before .before .before .before .before .from .ensures .0 in
     let u = c .before .before .before .before .to .ensures .0 in
     let i = inside (c .before .before .before .before) in
-    let d = seen-doubled _ (l .j) (l .inv .2) s u (i .0) in (
+    let d = seen-doubled _ _ (l .j) (l .inv .2) s u (i .0) in (
       omega arith,
       first-miss _ (l .j) (l .inv .1) (d ∙ sym (c .before .before .has .ensures) ∙ c .before .if1 .left),
       seen-more _ _ (l .j) (l .seen) (l .inv .2) s u (i .0) (i .1) (c .add .result) (c .add .ensures),

@@ -14,10 +14,10 @@ use Rattle.table_reader.proofs.first_outside.Statement.{statement}
 use Rattle.table_reader.proofs.first_outside.Tie as tie
 
 abbrev Inv-loop : tie.InvT-loop
-Inv-loop steps n m j₀ j = (j ≤ m) × (firstBelow j (endsOutside steps n) ≡ j)
+Inv-loop steps format n m j₀ j = (j ≤ m) × (firstBelow j (endsOutside format steps n) ≡ j)
 
 abbrev μ-loop : tie.MeasureT-loop
-μ-loop steps n m j₀ j = m - j
+μ-loop steps format n m j₀ j = m - j
 
 loop-holds : tie.Need-loop-holds Inv-loop μ-loop
 loop-holds c = (omega arith, first-start _)
@@ -29,7 +29,7 @@ returns : tie.Need-returns Inv-loop μ-loop
 returns c =
     let a = c .before .before .before .before .before .args in
     let l = c .before .before .before .loop in
-    sym (first-hit _ (l .j) (a .m) (l .inv .1) (omega arith) (decides-true (outside-decides (now (a .steps)) (a .n) (l .j)) (inl (omega arith))))
+    sym (first-hit _ (l .j) (a .m) (l .inv .1) (omega arith) (decides-true (outside-decides (a .format) (now (a .steps)) (a .n) (l .j)) (inl (omega arith))))
 
 to-requires : tie.Need-to-requires Inv-loop μ-loop
 to-requires c κs = search needs
@@ -38,7 +38,7 @@ returns-2 : tie.Need-returns-2 Inv-loop μ-loop
 returns-2 c =
     let a = c .before .before .before .before .before .before .before .args in
     let l = c .before .before .before .before .before .loop in
-    sym (first-hit _ (l .j) (a .m) (l .inv .1) (omega arith) (decides-true (outside-decides (now (a .steps)) (a .n) (l .j)) (inr (omega arith))))
+    sym (first-hit _ (l .j) (a .m) (l .inv .1) (omega arith) (decides-true (outside-decides (a .format) (now (a .steps)) (a .n) (l .j)) (inr (omega arith))))
 
 add-j : tie.Need-add-j Inv-loop μ-loop
 add-j c = search needs
@@ -52,7 +52,7 @@ loop-again c =
     let l = c .before .before .before .before .before .loop in (
       omega arith,
       first-miss _ (l .j) (l .inv .1)
-          (decides-false (outside-decides (now (a .steps)) (a .n) (l .j)) (⊎-elim (λ h. omega arith) (λ h. omega arith))),
+          (decides-false (outside-decides (a .format) (now (a .steps)) (a .n) (l .j)) (⊎-elim (λ h. omega arith) (λ h. omega arith))),
     )
 
 returns-3 : tie.Need-returns-3 Inv-loop μ-loop

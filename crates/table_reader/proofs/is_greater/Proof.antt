@@ -1,6 +1,6 @@
 -- `table_reader::is_greater` meets its contract: where the two leave the same state their ends decide. Assumes nothing.
 use Prim.Native.Nat.{ℕ}
-use mathlib.Core.Path.{_≡_, sym, _∙_}
+use mathlib.Core.Path.{_≡_, sym}
 use mathlib.Core.Bool.{or-false}
 use mathlib.Core.List.{List}
 use native.Mathlib.Omega.{arith}
@@ -8,19 +8,20 @@ use lib.Dec.{ltb}
 use denote.Ref.{now}
 use borrow.Author.Tests.{le-ltb, eq-eqb, ne-eqb}
 use borrow.Author.Needs.{needs}
+use Rattle.tables.specs.declared.Format.{Format}
 use Rattle.tables.specs.Table.{fromOf, toOf}
 use Rattle.table_reader.specs.TableReading.{greater}
 use Rattle.table_reader.proofs.is_greater.Statement.{statement}
 use Rattle.table_reader.proofs.is_greater.Tie as tie
 
-module _ (steps : List ℕ) (j i : ℕ) where
-  by-to : fromOf steps i ≡ fromOf steps j → greater steps j i ≡ ltb (toOf steps i) (toOf steps j)
+module _ (f : Format) (steps : List ℕ) (j i : ℕ) where
+  by-to : fromOf f steps i ≡ fromOf f steps j → greater f steps j i ≡ ltb (toOf f steps i) (toOf f steps j)
   unfolding greater
-  by-to e = rw (le-ltb (fromOf steps i) (fromOf steps j) (omega arith), eq-eqb (fromOf steps i) (fromOf steps j) e)
+  by-to e = rw (le-ltb (fromOf f steps i) (fromOf f steps j) (omega arith), eq-eqb (fromOf f steps i) (fromOf f steps j) e)
 
-  by-from : (fromOf steps i ≡ fromOf steps j → ⊥) → greater steps j i ≡ ltb (fromOf steps i) (fromOf steps j)
+  by-from : (fromOf f steps i ≡ fromOf f steps j → ⊥) → greater f steps j i ≡ ltb (fromOf f steps i) (fromOf f steps j)
   unfolding greater
-  by-from n = rw (ne-eqb (fromOf steps i) (fromOf steps j) n) (or-false _)
+  by-from n = rw (ne-eqb (fromOf f steps i) (fromOf f steps j) n) (or-false _)
 
 from-requires : tie.Need-from-requires
 from-requires c κs = search needs
@@ -37,12 +38,13 @@ to-requires-2 c κs = search needs
 returns : tie.Need-returns
 returns c =
     let a = c .before .before .before .before .before .before .args in
-    rw (c .before .to .ensures .0, c .to2 .ensures .0) (sym (by-to (now (a .steps)) (a .later) (a .earlier) (omega arith)))
+    rw (c .before .to .ensures .0, c .to2 .ensures .0) (sym (by-to (a .format) (now (a .steps)) (a .later) (a .earlier) (omega arith)))
 
 returns-2 : tie.Need-returns-2
 returns-2 c =
     let a = c .before .before .before .before .args in
-    rw (c .before .before .from .ensures .0, c .before .from2 .ensures .0) (sym (by-from (now (a .steps)) (a .later) (a .earlier) (λ e. omega arith)))
+    rw (c .before .before .from .ensures .0, c .before .from2 .ensures .0)
+    (sym (by-from (a .format) (now (a .steps)) (a .later) (a .earlier) (λ e. omega arith)))
 
 pub is-greater-spec : {M : Type 1} → statement M
 is-greater-spec =

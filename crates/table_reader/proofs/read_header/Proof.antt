@@ -5,18 +5,15 @@ use native.Mathlib.Omega.{arith}
 use lib.ListN.{length}
 use denote.Ref.{now}
 use borrow.Author.Tests.{lt-ltb, le-ltb, le-leb, lt-leb}
-use borrow.Author.Needs.{needs}
-use Rattle.lists.specs.Numbers.{bigEndian}
 use Rattle.tables.specs.Table.{versionOf}
 use Rattle.table_reader.specs.TableReading.{readHeader, versionFits}
+use borrow.Author.Needs.{needs}
 use Rattle.table_reader.proofs.read_header.Statement.{statement}
 use Rattle.table_reader.proofs.read_header.Tie as tie
 
 returns : tie.Need-returns
 unfolding readHeader
-returns c =
-    let s = now (c .before .before .args .s) in
-    rw (lt-ltb (length s) 9 (omega arith))
+returns c = rw (lt-ltb (length (now (c .before .before .args .s))) 9 (omega arith))
 
 magic-fits-requires : tie.Need-magic-fits-requires
 magic-fits-requires c κs = search needs
@@ -25,47 +22,44 @@ returns-2 : tie.Need-returns-2
 unfolding readHeader
 returns-2 c =
     let s = now (c .before .before .before .before .args .s) in
-    rw (
-      le-ltb (length s) 9 (omega arith),
-      ap not (sym (c .before .magic-fits .ensures)) ∙ c .if2 .taken,
-    )
+    rw (le-ltb (length s) 9 (omega arith), ap not (sym (c .before .magic-fits .ensures)) ∙ c .if2 .taken)
 
-read-be16-requires : tie.Need-read-be16-requires
-read-be16-requires c κs = search needs
+version-requires : tie.Need-version-requires
+version-requires c κs = search needs
 
 returns-3 : tie.Need-returns-3
-unfolding readHeader versionFits versionOf
+unfolding readHeader versionFits
 returns-3 c =
     let s = now (c .before .before .before .before .before .before .args .s) in
     rw (
       le-ltb (length s) 9 (omega arith),
       ap not (sym (c .before .before .before .magic-fits .ensures)) ∙ c .before .before .if2 .left,
-      lt-leb 1 (bigEndian s 3 2) (omega arith),
+      lt-leb 1 (versionOf s) (omega (arith, c .before .version .ensures)),
     )
 
 returns-4 : tie.Need-returns-4
-unfolding readHeader versionFits versionOf
+unfolding readHeader versionFits
 returns-4 c =
     let s = now (c .before .before .before .before .before .before .before .args .s) in
     rw (
       le-ltb (length s) 9 (omega arith),
       ap not (sym (c .before .before .before .before .magic-fits .ensures)) ∙ c .before .before .before .if2 .left,
-      le-leb 1 (bigEndian s 3 2) (omega arith),
-      lt-leb (bigEndian s 3 2) 2 (omega arith),
+      le-leb 1 (versionOf s) (omega (arith, c .before .before .version .ensures)),
+      lt-leb (versionOf s) 3 (omega (arith, c .before .before .version .ensures)),
     )
 
 read-sizes-requires : tie.Need-read-sizes-requires
 read-sizes-requires c κs = search needs
 
 returns-5 : tie.Need-returns-5
-unfolding readHeader versionFits versionOf
+unfolding readHeader versionFits
 returns-5 c =
     let s = now (c .before .before .before .before .before .before .before .before .args .s) in
     rw (
       le-ltb (length s) 9 (omega arith),
       ap not (sym (c .before .before .before .before .before .magic-fits .ensures)) ∙ c .before .before .before .before .if2 .left,
-      le-leb 1 (bigEndian s 3 2) (omega arith),
-      le-leb (bigEndian s 3 2) 2 (omega arith),
+      le-leb 1 (versionOf s) (omega (arith, c .before .before .before .version .ensures)),
+      le-leb (versionOf s) 3 (omega (arith, c .before .before .before .version .ensures)),
     )
     (c .read-sizes .ensures)
 
@@ -76,7 +70,7 @@ read-header-spec =
     returns
     magic-fits-requires
     returns-2
-    read-be16-requires
+    version-requires
     returns-3
     returns-4
     read-sizes-requires

@@ -24,6 +24,9 @@ enum-told-6 c = search needs
 enum-told-7 : tie.Need-enum-told-7
 enum-told-7 c = search needs
 
+enum-told-8 : tie.Need-enum-told-8
+enum-told-8 c = search needs
+
 enum-known-refusal : tie.Need-enum-known-refusal
 enum-known-refusal c = search needs
 
@@ -55,13 +58,16 @@ returns-7 : tie.Need-returns-7
 returns-7 c = rw (c .enum-told7 .given .1)
 
 returns-8 : tie.Need-returns-8
-returns-8 c = rw (c .before .refusal .given .1)
+returns-8 c = rw (c .enum-told8 .given .1)
 
 returns-9 : tie.Need-returns-9
-returns-9 c = rw (c .before .refusal2 .given .1)
+returns-9 c = rw (c .before .refusal .given .1)
 
 returns-10 : tie.Need-returns-10
-returns-10 c = rw (c .before .refusal3 .given .1)
+returns-10 c = rw (c .before .refusal2 .given .1)
+
+returns-11 : tie.Need-returns-11
+returns-11 c = rw (c .before .refusal3 .given .1)
 
 pub answer-spec : {M : Type 1} → statement M
 answer-spec =
@@ -74,6 +80,7 @@ answer-spec =
     enum-told-5
     enum-told-6
     enum-told-7
+    enum-told-8
     enum-known-refusal
     enum-known-refusal-2
     enum-known-refusal-3
@@ -86,4 +93,5 @@ answer-spec =
     returns-7
     returns-8
     returns-9
-    returns-10)
+    returns-10
+    returns-11)

@@ -1,0 +1,24 @@
+-- `tables::Format::of` meets its contract: each version has its format. Assumes nothing.
+use borrow.Author.Tests.{eq-eqb, ne-eqb}
+use Rattle.tables.specs.Table.{formatOf}
+use Rattle.tables.proofs.Format.of.Statement.{statement}
+use Rattle.tables.proofs.Format.of.Tie as tie
+
+returns : tie.Need-returns
+unfolding formatOf
+returns c = rw (eq-eqb (c .before .args .version) 1 (c .if1 .taken))
+
+returns-2 : tie.Need-returns-2
+unfolding formatOf
+returns-2 c =
+    let v = c .before .before .args .version in
+    rw (ne-eqb v 1 (c .before .if1 .left), eq-eqb v 2 (c .if2 .taken))
+
+returns-3 : tie.Need-returns-3
+unfolding formatOf
+returns-3 c =
+    let v = c .before .before .args .version in
+    rw (ne-eqb v 1 (c .before .if1 .left), ne-eqb v 2 (c .if2 .left))
+
+pub of-spec : {M : Type 1} → statement M
+of-spec = tie.close (tie.spec returns returns-2 returns-3)
