@@ -1,5 +1,6 @@
 //! The states among which a line of a listing chooses, read from the bytes alone.
 
+use crate::tables::{related, states, steps};
 use oracle::{Layout, Line};
 
 /// The three files of an input that the judge accepts.
@@ -95,7 +96,7 @@ impl<'a> Accepted<'a> {
 
     fn related(&self, side: usize, own: usize, other: usize) -> bool {
         let (s, t) = [(own, other), (other, own)][side];
-        related(self.certificate, s, t)
+        related(&self.certificate[self.layout.row(0)..], s, t)
     }
 
     /// The C rank of the duty's step at v is below that at t.
@@ -106,21 +107,4 @@ impl<'a> Accepted<'a> {
         };
         rank(v) < rank(duty.t)
     }
-}
-
-/// The left state s and the right state t are related.
-pub fn related(certificate: &[u8], s: usize, t: usize) -> bool {
-    certificate[11 + 8 * s + 7 - t / 8] >> (t % 8) & 1 == 1
-}
-
-pub fn states(table: &[u8]) -> usize {
-    table[5] as usize
-}
-
-/// The steps of a table, each from and to.
-pub fn steps(table: &[u8]) -> impl Iterator<Item = (usize, usize)> + '_ {
-    let steps = &table[9 + 2 * states(table)..];
-    steps
-        .chunks_exact(2)
-        .map(|step| (step[0] as usize, step[1] as usize))
 }

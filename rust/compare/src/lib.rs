@@ -3,24 +3,36 @@
 //! was seen.
 
 mod accepted;
+mod answers_seen;
 mod follow;
+mod functions;
 mod listing;
 mod matching;
 mod names;
 mod path_property;
 mod report;
 mod runs_seen;
+mod starts_seen;
+mod tables;
+mod worked_starts;
 
 pub use accepted::Accepted;
+use answers_seen::Files;
 pub use follow::follow;
+pub use functions::Functions;
 use inputs::{JudgeCases, MakeCases, ProgramCases, Random, PROGRAM_FORMS, VERSIONS};
 pub use listing::listing;
 pub use matching::{Block, Given};
-use names::{limit_names, mix_name, mix_names, name, names, size_names, table_codes};
+use names::{limit_names, size_names};
 pub use path_property::Implementation;
 pub use report::Report;
+use tables::{states, steps};
 
 type Answer = [u64; 6];
+
+/// The judge's numbers after those of the tables, but for 16, which is seen with the
+/// starts.
+const JUDGE_CODES: [u64; 9] = [10, 11, 12, 13, 14, 15, 17, 18, 19];
 
 /// Compares a judge with the oracle's on `count` inputs.
 pub fn judge(
@@ -38,10 +50,10 @@ pub fn judge_in(
     seed: u64,
     mut under_test: impl FnMut(&[u8], &[u8], &[u8]) -> Answer,
 ) -> Report {
-    let mut required = names("accepted", table_codes(versions).chain(10..=19));
+    let mut required = answers_seen::required("accepted", versions, JUDGE_CODES);
     required.extend(["2a", "2b", "2c"].map(String::from));
     required.extend(limit_names("accepted"));
-    required.extend(mix_names("accepted", versions));
+    required.extend(starts_seen::required_of_large("accepted", versions));
     let mut report = Report::new(required);
 
     for case in JudgeCases::in_versions(versions, seed, count) {
@@ -59,12 +71,12 @@ pub fn judge_in(
         );
 
         report.see_label(case.label);
-        report.see(name(expected, "accepted"));
+        let files = Files::certified(left, right, certificate);
+        answers_seen::see(&mut report, "accepted", expected, files);
         if expected[0] == 0 {
             report.see_times("2a", expected[3]);
             report.see_times("2b", expected[4]);
             report.see_times("2c", expected[5]);
-            report.see(mix_name("accepted", left, right));
             for size in [size_names("accepted", left), size_names("accepted", right)].concat() {
                 report.see(size);
             }
@@ -92,15 +104,14 @@ pub fn make_in(
     seed: u64,
     mut under_test: impl FnMut(&[u8], &[u8], &[u8], &mut [u8]) -> Answer,
 ) -> Report {
-    let further = [15, 16, 17, 20, 21, 22, 23];
-    let mut required = names("made", table_codes(versions).chain(further));
+    let mut required = answers_seen::required("made", versions, [15, 17, 20, 21, 22, 23]);
     required.extend(RUNS.map(|run| format!("made, {run} rank above 0")));
     required.extend(RUNS.map(|run| format!("made, {run} rank of 63")));
     required.extend(["made, output exact", "made, output longer"].map(String::from));
     required.push("21, one byte short".to_string());
     required.push(LARGEST.to_string());
     required.extend(limit_names("made"));
-    required.extend(mix_names("made", versions));
+    required.extend(starts_seen::required_of_large("made", versions));
     let mut report = Report::new(required);
     let mut random = Random::new(!seed);
 
@@ -128,7 +139,8 @@ pub fn make_in(
         );
 
         report.see_label(case.label);
-        report.see(name(expected, "made"));
+        let rows = &relation[..];
+        answers_seen::see(&mut report, "made", expected, Files { left, right, rows });
         if expected[0] == 21 && case.output_length as u64 + 1 == expected[2] {
             report.see("21, one byte short");
         }
@@ -171,9 +183,8 @@ fn see_made(
     for size in [size_names("made", left), size_names("made", right)].concat() {
         report.see(size);
     }
-    report.see(mix_name("made", left, right));
-    let (n1, n2) = (left[5] as usize, right[5] as usize);
-    let m1 = left[7] as usize * 256 + left[8] as usize;
+    let (n1, n2) = (states(left), states(right));
+    let m1 = steps(left).count();
     let (rows, mut rest) = certificate[11..].split_at(8 * n1);
     if certificate.len() == 41_483 && rows.iter().all(|&byte| byte == 0xff) {
         report.see(LARGEST);
@@ -194,7 +205,7 @@ fn see_made(
 /// Compares a program with the oracle's on `count` inputs. The closure is given
 /// the standard input and gives what was printed.
 pub fn program(count: usize, seed: u64, mut under_test: impl FnMut(&[u8]) -> String) -> Report {
-    let mut required = names("accepted", table_codes(VERSIONS).chain(10..=19));
+    let mut required = answers_seen::required("accepted", VERSIONS, JUDGE_CODES);
     required.extend(PROGRAM_FORMS.map(String::from));
     let mut report = Report::new(required);
 
@@ -208,7 +219,9 @@ pub fn program(count: usize, seed: u64, mut under_test: impl FnMut(&[u8]) -> Str
         for (number, word) in answer.iter_mut().zip(expected.split_whitespace()) {
             *number = word.parse().expect("the program prints numbers");
         }
-        report.see(name(answer, "accepted"));
+        let [left, right, certificate] = oracle::pieces(&case.input);
+        let files = Files::certified(left, right, certificate);
+        answers_seen::see(&mut report, "accepted", answer, files);
     }
     report
 }

@@ -1,13 +1,13 @@
 //! Compares a listing program with the oracle's.
 
 use crate::accepted::Accepted;
-use crate::names::{mix_name, mix_names, name, names, table_codes};
+use crate::answers_seen::{self, Files};
+use crate::names::SIDES;
 use crate::report::Report;
-use crate::require_same;
+use crate::{require_same, starts_seen, JUDGE_CODES};
 use inputs::{ListingCases, PROGRAM_FORMS, VERSIONS};
 use oracle::Line;
 
-const SIDES: [&str; 2] = ["left", "right"];
 const CLAUSES: [&str; 3] = ["2a", "2b", "2c"];
 
 /// What can be special about an accepted input as a whole.
@@ -33,15 +33,16 @@ pub fn listing(count: usize, seed: u64, mut under_test: impl FnMut(&[u8]) -> Str
         report.see_label(case.label);
         report.see(case.label);
         let [left, right, certificate] = oracle::pieces(&case.input);
-        match oracle::list(left, right, certificate) {
+        let files = Files::certified(left, right, certificate);
+        let answer = match oracle::list(left, right, certificate) {
             Ok(lines) => {
                 accepted += 1;
-                report.see("accepted");
-                report.see(mix_name("accepted", left, right));
                 see_lines(&mut report, &case.input, &lines);
+                [0; 6]
             }
-            Err(refusal) => report.see(name(refusal, "accepted")),
-        }
+            Err(refusal) => refusal,
+        };
+        answers_seen::see(&mut report, "accepted", answer, files);
     }
     if 3 * accepted >= count {
         report.see(A_THIRD);
@@ -50,9 +51,9 @@ pub fn listing(count: usize, seed: u64, mut under_test: impl FnMut(&[u8]) -> Str
 }
 
 fn required() -> Vec<String> {
-    let mut required = names("accepted", table_codes(VERSIONS).chain(10..=19));
+    let mut required = answers_seen::required("accepted", VERSIONS, JUDGE_CODES);
+    required.extend(starts_seen::required_of_large("accepted", VERSIONS));
     required.extend(PROGRAM_FORMS.map(String::from));
-    required.extend(mix_names("accepted", VERSIONS));
     required.extend([NO_DUTY, ALL_CLAUSES, FULL_SIZE, A_THIRD].map(String::from));
     for side in SIDES {
         required.extend(CLAUSES.map(|clause| format!("{side} {clause}")));

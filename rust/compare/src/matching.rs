@@ -2,7 +2,7 @@
 //! a follower finds its path: the two outputs are read back, and the four things are
 //! tested on the tables and the relation alone.
 
-use crate::accepted::{related, states, steps};
+use crate::tables::{related, states, steps};
 use crate::Answer;
 use inputs::FollowCase;
 
@@ -141,7 +141,7 @@ impl<'a> Given<'a> {
         for &own in &block.given {
             for &other in &block.written {
                 let (s, t) = [(own, other), (other, own)][self.side as usize];
-                if !related(self.certificate, s, t) {
+                if !related(&self.certificate[11..], s, t) {
                     return Err(format!("{s} and {t} are not related"));
                 }
             }

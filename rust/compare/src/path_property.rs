@@ -1,6 +1,7 @@
 //! The maker succeeds exactly when the path property holds, which is decided here
 //! without ranks, matched duties or chains.
 
+use crate::tables::{states, steps};
 use crate::Answer;
 use inputs::{relation_bytes, table_bytes, MakeCases, Random};
 use oracle::{Layout, Step, Table};
@@ -37,19 +38,20 @@ impl Implementation {
             scope.spawn(move || self.check_all(2, 3, 3).require(1_000));
             scope.spawn(move || self.check_all(3, 2, 3).require(1_000));
             scope.spawn(move || self.check_starts_and_marks().require(1_000));
+            scope.spawn(move || self.check_start_words().require(1_000));
             scope.spawn(move || self.check_three_states(100_000).require(1_000));
             scope.spawn(move || self.check_generated(100_000).require(1_000));
         });
     }
 
-    /// All tables of these sizes with start 0 and equal marks, and one in `apart` of all
+    /// All tables of these sizes with the one start 0 and equal marks, and one in `apart` of all
     /// relations, beginning with another for each pair of tables.
     fn check_all(self, n1: usize, n2: usize, apart: usize) -> Seen {
         let mut check = Check::new(self, 1);
         for left_steps in 0..1 << (n1 * n1) {
-            let left = table(0, &vec![0; n1], left_steps);
+            let left = table(1, &vec![0; n1], left_steps);
             for right_steps in 0..1 << (n2 * n2) {
-                let right = table(0, &vec![0; n2], right_steps);
+                let right = table(1, &vec![0; n2], right_steps);
                 let first = (left_steps + right_steps) % apart;
                 for pairs in (first..1 << (n1 * n2)).step_by(apart) {
                     check.system(&left, &right, &relation(n1, n2, pairs));
@@ -59,27 +61,43 @@ impl Implementation {
         check.seen
     }
 
-    /// Two states a side with every start and every choice of two marks.
+    /// Two states a side with every one start and every choice of two marks.
     fn check_starts_and_marks(self) -> Seen {
         let mut check = Check::new(self, 2);
         for choice in 0..1 << 18 {
             let bits = |place: usize, count: usize| choice >> place & ((1 << count) - 1);
             let bit = |place| bits(place, 1);
-            let left = table(bit(0), &[bit(1) as u16, bit(2) as u16], bits(3, 4));
-            let right = table(bit(7), &[bit(8) as u16, bit(9) as u16], bits(10, 4));
+            let left = table(1 << bit(0), &[bit(1) as u16, bit(2) as u16], bits(3, 4));
+            let right = table(1 << bit(7), &[bit(8) as u16, bit(9) as u16], bits(10, 4));
             check.system(&left, &right, &relation(2, 2, bits(14, 4)));
         }
         check.seen
     }
 
-    /// A sample of the systems of three states a side.
+    /// Two states a side with every word of starts and equal marks.
+    fn check_start_words(self) -> Seen {
+        let mut check = Check::new(self, 6);
+        for (left_starts, right_starts) in (1..4).flat_map(|l| (1..4).map(move |r| (l, r))) {
+            for choice in 0..1 << 12 {
+                let left = table(left_starts, &[0; 2], choice % 16);
+                let right = table(right_starts, &[0; 2], choice / 16 % 16);
+                check.system(&left, &right, &relation(2, 2, choice / 256));
+            }
+        }
+        check.seen
+    }
+
+    /// A sample of the systems of three states a side, half of them with any starts.
     fn check_three_states(self, count: usize) -> Seen {
         let mut check = Check::new(self, 3);
         let mut random = Random::new(!3);
-        for _ in 0..count {
-            // Fewer steps and more pairs than half let the property hold more often.
-            let left = table(0, &[0; 3], random.below(512) & random.below(512));
-            let right = table(0, &[0; 3], random.below(512) & random.below(512));
+        for i in 0..count {
+            let mut table = || {
+                let starts = if i % 2 == 0 { 1 } else { random.within(1, 7) };
+                // Fewer steps and more pairs than half let the property hold more often.
+                table(starts, &[0; 3], random.below(512) & random.below(512))
+            };
+            let (left, right) = (table(), table());
             let pairs = random.below(512) | random.below(512) | 1;
             check.system(&left, &right, &relation(3, 3, pairs));
         }
@@ -94,7 +112,8 @@ impl Implementation {
             let (left, right, relation) = (&case.left, &case.right, &case.relation);
             let mut output = vec![0; case.output_length];
             let code = oracle::make(left, right, relation, &mut output)[0];
-            if [0, 16, 17, 22, 23].contains(&code) && left[5] <= 4 && right[5] <= 4 {
+            let is_small = |table: &[u8]| states(table) <= 4;
+            if [0, 16, 17, 22, 23].contains(&code) && is_small(left) && is_small(right) {
                 check.system(left, right, relation);
             }
         }
@@ -123,10 +142,10 @@ impl Check {
     fn system(&mut self, left: &[u8], right: &[u8], relation: &[u8]) {
         let Implementation { make, judge } = self.implementation;
         let layout = Layout {
-            n1: left[5] as usize,
-            n2: right[5] as usize,
-            m1: left[8] as usize,
-            m2: right[8] as usize,
+            n1: states(left),
+            n2: states(right),
+            m1: steps(left).count(),
+            m2: steps(right).count(),
         };
         let mut certificate = vec![0; layout.length()];
         let answer = make(left, right, relation, &mut certificate);
@@ -158,11 +177,14 @@ impl Check {
     }
 }
 
-/// The table with these marks whose steps, which rise, are the bits of `steps`. Every
-/// other one is in version 2.
-fn table(start: usize, marks: &[u16], steps: usize) -> Vec<u8> {
+/// The table with these marks whose starts are the bits of `starts` and whose steps, which
+/// rise, are the bits of `steps`. Where there is one start, the versions take turns.
+fn table(starts: usize, marks: &[u16], steps: usize) -> Vec<u8> {
     let n = marks.len();
-    let version = 1 + (steps % 2) as u16;
+    let version = match starts.count_ones() {
+        1 => 1 + (steps % 3) as u16,
+        _ => 3,
+    };
     let steps = (0..n * n)
         .filter(|pair| steps >> pair & 1 == 1)
         .map(|pair| Step {
@@ -172,7 +194,7 @@ fn table(start: usize, marks: &[u16], steps: usize) -> Vec<u8> {
         .collect();
     table_bytes(&Table {
         version,
-        start,
+        starts: (0..n).filter(|s| starts >> s & 1 == 1).collect(),
         marks: marks.to_vec(),
         steps,
     })

@@ -1,14 +1,15 @@
 //! What a comparison of followers must see, and how it is seen.
 
-use crate::accepted::{steps, Accepted};
+use crate::accepted::Accepted;
+use crate::answers_seen::{self, Files};
 use crate::matching::{Block, Given};
-use crate::names::{mix_name, mix_names, name, names, table_codes};
+use crate::names::SIDES;
 use crate::report::Report;
-use crate::Answer;
+use crate::tables::{starts, steps};
+use crate::{starts_seen, Answer, JUDGE_CODES};
 use inputs::{FollowCase, RUN_EDITS, VERSIONS};
 use oracle::Line;
 
-const SIDES: [&str; 2] = ["left", "right"];
 const OUTPUTS: [&str; 2] = ["first", "second"];
 
 /// By what a state is answered or written: one of the clauses, or the way on to a dead
@@ -35,14 +36,20 @@ const SPECIAL_CHOICES: [(&str, &str); 7] = [
 /// What can be special about a run that is followed.
 type SpecialRun = (&'static str, fn(&Given, &[Block]) -> bool);
 
-const SPECIAL_RUNS: [SpecialRun; 10] = [
+const SPECIAL_RUNS: [SpecialRun; 12] = [
     ("a path of 1 state", |given, _| given.path.len() == 1),
     ("a path of 256 states", |given, _| given.path.len() == 256),
-    ("a path not from its table's start", |given, _| {
-        given.path[0] != given.own()[6]
+    ("a path from no start of its table", |given, _| {
+        !starts(given.own()).contains(&(given.path[0] as usize))
     }),
-    ("a start not its table's", |given, _| {
-        given.start != u64::from(given.other()[6])
+    ("a path from a later start of its table", |given, _| {
+        starts(given.own())[1..].contains(&(given.path[0] as usize))
+    }),
+    ("a start that is none of its table's", |given, _| {
+        !starts(given.other()).contains(&(given.start as usize))
+    }),
+    ("a later start of its table", |given, _| {
+        starts(given.other())[1..].contains(&(given.start as usize))
     }),
     ("a dead end at once", |given, blocks| {
         let last = last(blocks);
@@ -78,12 +85,12 @@ const ORDERS: [[&str; 2]; 6] = [
 const A_THIRD: &str = "followed, at least one in three";
 
 pub fn required() -> Vec<String> {
-    let codes = table_codes(VERSIONS).chain(10..=19).chain(25..=27);
-    let mut required = names("followed", codes);
+    let codes = JUDGE_CODES.into_iter().chain(25..=27);
+    let mut required = answers_seen::required("followed", VERSIONS, codes);
+    required.extend(starts_seen::required_of_large("followed", VERSIONS));
     required.push(A_THIRD.to_string());
     required.extend(RUN_EDITS.iter().map(|(label, _)| label.to_string()));
     required.extend(ORDERS.map(|[first, then]| format!("{first} before {then}")));
-    required.extend(mix_names("followed", VERSIONS));
     required.extend(SPECIAL_RUNS.map(|(special, _)| format!("followed, {special}")));
     for output in OUTPUTS {
         required.push(format!("followed, {output} output exact"));
@@ -99,7 +106,8 @@ pub fn required() -> Vec<String> {
 
 /// Sees the answer, the way to it, and what it came before.
 pub fn see_answer(report: &mut Report, case: &FollowCase, answer: Answer) {
-    report.see(name(answer, "followed"));
+    let files = Files::certified(&case.left, &case.right, &case.certificate);
+    answers_seen::see(report, "followed", answer, files);
     let number = answer[0].to_string();
     if case.label.split(':').next() == Some(&number) {
         report.see(case.label);
@@ -122,7 +130,6 @@ pub fn see_share(report: &mut Report, followed: usize, count: usize) {
 
 /// Sees what is special about a run that was followed, and each choice.
 pub fn see_matching(report: &mut Report, case: &FollowCase, given: &Given, blocks: &[Block]) {
-    report.see(mix_name("followed", given.left, given.right));
     let needed = [3 * states_written(blocks), 2 * given.path.len()];
     let lent = [case.run.states_length, case.run.blocks_length];
     for (output, (lent, needed)) in OUTPUTS.iter().zip(lent.iter().zip(needed)) {

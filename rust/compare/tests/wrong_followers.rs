@@ -3,7 +3,7 @@
 
 use compare::{Accepted, Given};
 use inputs::FollowCases;
-use oracle::Answer;
+use oracle::{Answer, TableLayout};
 use std::panic::{catch_unwind, AssertUnwindSafe};
 
 /// Such a follower, by what is wrong with it.
@@ -179,7 +179,8 @@ impl Habits {
 
 /// The steps of a table, each from and to.
 fn steps(table: &[u8]) -> impl Iterator<Item = (u64, u64)> + '_ {
-    let steps = table[9 + 2 * table[5] as usize..].chunks_exact(2);
+    let layout = TableLayout::of_file(table).expect("the version is known");
+    let steps = table[layout.step(table[5] as usize, 0)..].chunks_exact(2);
     steps.map(|step| (u64::from(step[0]), u64::from(step[1])))
 }
 

@@ -40,8 +40,8 @@ pub const BYTE_EDITS: &[ByteEdit] = &[
         let length = random.below(60);
         *bytes = random.bytes(length);
     }),
-    ("random bytes after a good header", |random, bytes| {
-        let kept = bytes.len().min(11);
+    ("random bytes after a good beginning", |random, bytes| {
+        let kept = bytes.len().min(random.pick(&[5, 6, 11, 14, 16]));
         let further = random.bytes(bytes.len() - kept);
         bytes.truncate(kept);
         bytes.extend(further);

@@ -2,6 +2,7 @@
 //! its ranks, and changes that leave it as good as it was.
 
 use crate::random::Random;
+use crate::starts::{any_start, pairs_of_start};
 use crate::system::System;
 
 /// A change to a certificate of a system, and what it is called.
@@ -51,9 +52,39 @@ pub const HEADER_EDITS: &[CertificateEdit] = &[
             set_bit_too_high(random, system, &mut bytes[11..]);
         }
     }),
-    ("16: starts", |_, system, bytes| {
-        turn_bit(bytes, system.left.start, system.right.start);
+    ("16: a start unpaired", |random, system, bytes| {
+        unpair_some_start(random, system, bytes);
     }),
+];
+
+/// Near-misses for 16 alone. In the last one the start may still be paired.
+pub const START_EDITS: &[CertificateEdit] = &[
+    ("16: a start unpaired", |random, system, bytes| {
+        unpair_some_start(random, system, bytes);
+    }),
+    ("16: several starts unpaired", |random, system, bytes| {
+        for _ in 0..random.within(2, 4) {
+            unpair_some_start(random, system, bytes);
+        }
+    }),
+    (
+        "16: several starts of a side unpaired",
+        |random, system, bytes| {
+            let side = random.below(2);
+            for _ in 0..random.within(2, 4) {
+                let start = random.pick(&system.table(side).starts);
+                unpair(system, side, start, bytes);
+            }
+        },
+    ),
+    (
+        "16: one pair of a start taken out",
+        |random, system, bytes| {
+            let (side, start) = any_start(random, system);
+            let (s, t) = random.pick(&pairs_of_start(system, side, start));
+            clear_bit(bytes, s, t);
+        },
+    ),
 ];
 
 /// Near-misses for the causes 17 to 19.
@@ -188,6 +219,23 @@ fn stretch_ranks(random: &mut Random, ranks: &mut [u8]) {
 /// Adds the pair to the rows, or takes it out.
 fn turn_bit(bytes: &mut [u8], s: usize, t: usize) {
     bytes[11 + 8 * s + 7 - t / 8] ^= 1 << (t % 8);
+}
+
+/// Takes all pairs of some start with the starts of the other side out of the rows.
+fn unpair_some_start(random: &mut Random, system: &System, bytes: &mut [u8]) {
+    let (side, start) = any_start(random, system);
+    unpair(system, side, start, bytes);
+}
+
+fn unpair(system: &System, side: usize, start: usize, bytes: &mut [u8]) {
+    for (s, t) in pairs_of_start(system, side, start) {
+        clear_bit(bytes, s, t);
+    }
+}
+
+/// Takes the pair out of the rows.
+fn clear_bit(bytes: &mut [u8], s: usize, t: usize) {
+    bytes[11 + 8 * s + 7 - t / 8] &= !(1 << (t % 8));
 }
 
 /// Sets a bit that stands for no right state. `rows` begins with the first row.

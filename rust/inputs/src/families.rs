@@ -3,6 +3,7 @@
 
 use crate::random::Random;
 use crate::split::{relate_copies, split, SplitInto};
+use crate::starts::add_some_starts;
 use crate::system::{save_in, System};
 use oracle::{Step, Table};
 
@@ -36,7 +37,7 @@ pub fn any_layered_system(random: &mut Random, versions: &[u16]) -> System {
 }
 
 /// The system or the one with left and right exchanged, each table in one of these
-/// versions.
+/// versions, with several starts where the version has them.
 fn in_some_form(random: &mut Random, mut system: System, versions: &[u16]) -> System {
     if random.percent(50) {
         system = system.exchanged();
@@ -44,6 +45,7 @@ fn in_some_form(random: &mut Random, mut system: System, versions: &[u16]) -> Sy
     for table in [&mut system.left, &mut system.right] {
         save_in(table, random.pick(versions));
     }
+    add_some_starts(random, &mut system);
     system
 }
 
@@ -53,7 +55,7 @@ pub fn random_system(random: &mut Random) -> System {
     let right = random_table(random, 6);
     let density = random.pick(&[20, 50, 80, 100]);
     let mut related = relation(&left, &right, |_, _| random.percent(density));
-    related[left.start][right.start] = true;
+    related[left.starts[0]][right.starts[0]] = true;
     System {
         left,
         right,
@@ -132,8 +134,8 @@ fn prune(mut system: System) -> System {
             (23, _) => system.related[c][b] = false,
             (16, _) => match system.pairs().first() {
                 Some(&(s, t)) => {
-                    system.left.start = s;
-                    system.right.start = t;
+                    system.left.starts = vec![s];
+                    system.right.starts = vec![t];
                 }
                 None => return system,
             },
@@ -166,14 +168,14 @@ pub fn cycles(random: &mut Random) -> System {
         random.shuffle(&mut order);
         Table {
             version: 1,
-            start: 0,
+            starts: vec![0],
             marks: (0..states).map(|s| (s % round) as u16 * 257).collect(),
             steps: order,
         }
     };
     let left = cycle(round * (64 / round));
     let mut right = cycle(round);
-    right.start = (round - shift) % round;
+    right.starts = vec![(round - shift) % round];
     right.marks.rotate_right((round - shift) % round);
     let related = relation(&left, &right, |s, t| s % round == (t + shift) % round);
     System {
@@ -201,7 +203,7 @@ pub fn long_system(random: &mut Random) -> System {
         + 1;
     let small = Table {
         version: 1,
-        start: 0,
+        starts: vec![0],
         marks: (0..states as u16).collect(),
         steps: steps.iter().map(|&(from, to)| Step { from, to }).collect(),
     };
@@ -259,7 +261,7 @@ fn renumbered(random: &mut Random, last: usize, mut steps: Vec<Step>) -> Table {
     marks[numbers[last]] = 0x0100;
     Table {
         version: 1,
-        start: numbers[random.below(last)],
+        starts: vec![numbers[random.below(last)]],
         marks,
         steps,
     }
@@ -271,7 +273,7 @@ fn renumbered(random: &mut Random, last: usize, mut steps: Vec<Step>) -> Table {
 pub fn round_trip(random: &mut Random) -> System {
     let states = random.pick(&[2, 3, 63, 64]);
     let (left, mut right) = (ring(2), ring(states));
-    right.start = random.below(states);
+    right.starts = vec![random.below(states)];
     let met = random.below(states);
     let related = relation(&left, &right, |s, t| s == 0 || t == met);
     System {
@@ -289,7 +291,7 @@ fn ring(states: usize) -> Table {
     };
     Table {
         version: 1,
-        start: 0,
+        starts: vec![0],
         marks: vec![0x0101; states],
         steps: (0..states).map(step).collect(),
     }
@@ -318,7 +320,7 @@ pub fn all_related() -> System {
     };
     let table = Table {
         version: 1,
-        start: 0,
+        starts: vec![0],
         marks: vec![0; 64],
         steps: (0..256).map(step).collect(),
     };
@@ -338,7 +340,7 @@ pub fn long_chains() -> System {
     let all_from = |from| (0..64).map(move |to| Step { from, to });
     let table = |steps: Vec<Step>| Table {
         version: 1,
-        start: 0,
+        starts: vec![0],
         marks: vec![0; 64],
         steps,
     };
@@ -380,7 +382,7 @@ pub fn long_distances() -> System {
     });
     let table = |steps: Vec<Step>| Table {
         version: 1,
-        start: 0,
+        starts: vec![0],
         marks: vec![0; 64],
         steps,
     };
@@ -414,7 +416,7 @@ pub fn stepless_system(random: &mut Random) -> System {
         let states = random.pick(&[1, 2, 3, 63, 64]);
         Table {
             version: 1,
-            start: random.below(states),
+            starts: vec![random.below(states)],
             marks: vec![0x0100; states],
             steps: Vec::new(),
         }
@@ -444,7 +446,7 @@ pub fn random_table(random: &mut Random, most: usize) -> Table {
     random.shuffle(&mut steps);
     Table {
         version: 1,
-        start: random.below(states),
+        starts: vec![random.below(states)],
         // Marks that differ in the high byte only, or in the low byte only.
         marks: (0..states)
             .map(|_| [0x0000, 0x0001, 0x0100][random.below(marks_used)])

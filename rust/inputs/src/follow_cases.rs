@@ -148,21 +148,22 @@ impl Accepted {
         self.run(side, start, walk(random, table, first, most, aim))
     }
 
-    /// A run from the table's start, with outputs that are just long enough. Its steps and
+    /// A run from the table's first start, with outputs that are just long enough. Its steps and
     /// the start on the other side are the smallest or the greatest, as the aim says.
     fn longest_run(&self, random: &mut Random, side: usize, aim: Aim) -> Run {
         let table = self.system.table(side);
+        let first = table.starts[0];
         let starts = self
             .pairs(side)
             .into_iter()
-            .filter(|&(first, _)| first == table.start)
+            .filter(|&(state, _)| state == first)
             .map(|(_, start)| start);
         let start = match aim {
             Aim::Greatest => starts.max(),
             _ => starts.min(),
         };
         let start = start.expect("the table's start is related");
-        let path = walk(random, table, table.start, 256, aim);
+        let path = walk(random, table, first, 256, aim);
         self.run(side, start, path)
     }
 

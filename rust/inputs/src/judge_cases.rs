@@ -1,7 +1,7 @@
 //! Inputs for the judge.
 
 use crate::byte_edits::BYTE_EDITS;
-use crate::certificate_edits::{EQUAL_EDITS, HEADER_EDITS, RANK_EDITS};
+use crate::certificate_edits::{EQUAL_EDITS, HEADER_EDITS, RANK_EDITS, START_EDITS};
 use crate::families::any_system;
 use crate::random::Random;
 use crate::system::{System, VERSIONS};
@@ -128,7 +128,9 @@ pub fn edit_certificate(
     system: &System,
     certificate: &mut Vec<u8>,
 ) -> &'static str {
+    let several_starts = system.left.starts.len() + system.right.starts.len() > 2;
     let edits = match random.below(10) {
+        _ if several_starts && random.percent(30) => START_EDITS,
         0..=1 => EQUAL_EDITS,
         2..=3 => HEADER_EDITS,
         4..=8 => RANK_EDITS,

@@ -15,6 +15,7 @@ mod random;
 mod run_edits;
 mod spaced;
 mod split;
+mod starts;
 mod system;
 mod system_edits;
 mod table_edits;

@@ -80,7 +80,7 @@ pub fn split(random: &mut Random, small: &Table, into: SplitInto) -> Copies {
         random.shuffle(&mut steps);
     }
 
-    let starts = copies(&copy_of, &place, small.start);
+    let starts = copies(&copy_of, &place, small.starts[0]);
     let marks = copy_of
         .iter()
         .map(|original| match original {
@@ -91,7 +91,7 @@ pub fn split(random: &mut Random, small: &Table, into: SplitInto) -> Copies {
     Copies {
         table: Table {
             version: 1,
-            start: random.pick(&starts),
+            starts: vec![random.pick(&starts)],
             marks,
             steps,
         },

@@ -2,6 +2,7 @@
 
 use crate::program_cases::joined;
 use crate::random::Random;
+use crate::starts::add_all_starts;
 use oracle::{Layout, Step, Table};
 
 type Make = fn(&[u8], &[u8], &[u8], &mut [u8]) -> [u64; 6];
@@ -96,7 +97,8 @@ impl System {
         system
     }
 
-    /// The same system with its tables in every mix of the versions.
+    /// The same system with its tables in every mix of the versions. Those that can have
+    /// several starts have all that are then paired.
     pub fn in_all_versions(&self) -> Vec<System> {
         let mut systems = Vec::new();
         for &left in VERSIONS {
@@ -104,6 +106,7 @@ impl System {
                 let mut system = self.clone();
                 save_in(&mut system.left, left);
                 save_in(&mut system.right, right);
+                add_all_starts(&mut system);
                 systems.push(system);
             }
         }
@@ -124,20 +127,31 @@ impl System {
 }
 
 /// The versions of a table.
-pub const VERSIONS: &[u16] = &[1, 2];
+pub const VERSIONS: &[u16] = &[1, 2, 3];
 
-/// Puts a table into a version: the steps of version 2 rise.
+/// Puts a table into a version. The steps are sorted where they must rise, and the first
+/// start alone is kept where there is no room for more.
 pub fn save_in(table: &mut Table, version: u16) {
     table.version = version;
-    if version == 2 {
+    let layout = table.layout();
+    if layout.rising {
         table.steps.sort();
+    }
+    if !layout.start_word {
+        table.starts.truncate(1);
     }
 }
 
 pub fn table_bytes(table: &Table) -> Vec<u8> {
     let mut bytes = b"TPT".to_vec();
     bytes.extend(table.version.to_be_bytes());
-    bytes.extend([table.states() as u8, table.start as u8]);
+    bytes.push(table.states() as u8);
+    if table.layout().start_word {
+        let word: u64 = table.starts.iter().map(|&s| 1u64 << s).sum();
+        bytes.extend(word.to_be_bytes());
+    } else {
+        bytes.push(table.starts[0] as u8);
+    }
     bytes.extend((table.steps.len() as u16).to_be_bytes());
     for mark in &table.marks {
         bytes.extend(mark.to_be_bytes());

@@ -2,6 +2,7 @@
 //! longer have the path property.
 
 use crate::random::Random;
+use crate::starts::{any_start, pairs_of_start, tidy};
 use crate::system::{save_in, System};
 use oracle::{Step, Table};
 
@@ -49,12 +50,35 @@ pub const SYSTEM_EDITS: &[SystemEdit] = &[
             system.related[s][t] = false;
         }
     }),
-    ("the pair of starts taken out", |_, system| {
-        system.related[system.left.start][system.right.start] = false;
+    ("a pair of starts taken out", |random, system| {
+        let (side, start) = any_start(random, system);
+        let (s, t) = random.pick(&pairs_of_start(system, side, start));
+        system.related[s][t] = false;
+    }),
+    ("a start unpaired", |random, system| {
+        let (side, start) = any_start(random, system);
+        for (s, t) in pairs_of_start(system, side, start) {
+            system.related[s][t] = false;
+        }
     }),
     ("a start moved", |random, system| {
         let table = one_side(random, system);
-        table.start = random.below(table.states());
+        let moved = random.below(table.starts.len());
+        table.starts[moved] = random.below(table.states());
+        tidy(table);
+    }),
+    ("a start added", |random, system| {
+        let table = one_side(random, system);
+        if table.layout().start_word {
+            table.starts.push(random.below(table.states()));
+            tidy(table);
+        }
+    }),
+    ("a start taken out", |random, system| {
+        let table = one_side(random, system);
+        if table.starts.len() > 1 {
+            table.starts.remove(random.below(table.starts.len()));
+        }
     }),
     ("a mark changed", |random, system| {
         let table = one_side(random, system);

@@ -1,10 +1,11 @@
-//! Near-misses of a table, for each cause 1 to 9 and 24 in the order of the causes.
+//! Near-misses of a table, for each cause 1 to 9, 24 and 28 in the order of the causes.
 //! Each expects a well-formed table and gives one that is turned away for the cause
 //! named, unless the table is too small or of a version that does not have the cause.
 //! Two may be made, the later one in the list first.
 
 use crate::byte_edits::ByteEdit;
 use crate::random::Random;
+use oracle::TableLayout;
 
 pub const TABLE_EDITS: &[ByteEdit] = &[
     ("1: table under 9 bytes", |random, table| {
@@ -14,26 +15,44 @@ pub const TABLE_EDITS: &[ByteEdit] = &[
         table[random.below(3)] ^= 1 << random.below(8);
     }),
     ("3: version", |random, table| {
-        let version: [u8; 2] = random.pick(&[[0, 0], [0, 3], [1, 0], [1, 1], [1, 2], [255, 255]]);
-        table[3..5].copy_from_slice(&version);
+        let version = [[0, 0], [0, 4], [1, 0], [1, 1], [1, 2], [1, 3], [255, 255]];
+        table[3..5].copy_from_slice(&random.pick(&version));
+    }),
+    ("the number of another version alone", |random, table| {
+        table[4] = random.pick(&[1, 2, 3]);
+    }),
+    ("1: a start word and under 16 bytes", |random, table| {
+        table[3..5].copy_from_slice(&[0, 3]);
+        table.truncate(random.within(9, 15));
     }),
     ("4: n", |random, table| {
         let n = random.pick(&[0, 65, 66, 128, 255]);
         let m = steps(table);
         table[5] = n as u8;
         if m <= 256 && random.percent(50) {
-            table.resize(length(n, m), 0);
+            let length = layout(table).length(n, m);
+            table.resize(length, 0);
         }
     }),
     ("5: start", |random, table| {
-        let n = table[5];
-        table[6] = random.pick(&[n, n + 1, 64, 128, 255]);
+        if !layout(table).start_word {
+            let n = table[5];
+            table[6] = random.pick(&[n, n + 1, 64, 128, 255]);
+        }
+    }),
+    ("28: no start", |_, table| change_starts(table, |_| 0)),
+    ("28: a start n or more", |random, table| {
+        once_or_twice(random, table, add_start_too_high)
+    }),
+    ("28: no start below n", |random, table| {
+        change_starts(table, |_| 0);
+        add_start_too_high(random, table);
     }),
     ("6: m", |random, table| {
         let m = random.pick(&[257, 258, 511, 512, 65_535]);
-        table[7..9].copy_from_slice(&(m as u16).to_be_bytes());
+        set_steps(table, m);
         if m < 512 && random.percent(50) {
-            let length = length(states(table), m);
+            let length = layout(table).length(states(table), m);
             table.resize(length, 0);
         }
     }),
@@ -43,19 +62,16 @@ pub const TABLE_EDITS: &[ByteEdit] = &[
         }
         1 => table.push(0),
         2 => table.extend([0, 0]),
-        _ => table.truncate(random.within(9, table.len() - 1)),
+        _ => table.truncate(random.within(layout(table).header, table.len() - 1)),
     }),
     ("7: one step more than m", |_, table| {
         let m = steps(table) + 1;
         if m <= 256 {
-            table[7..9].copy_from_slice(&(m as u16).to_be_bytes());
+            set_steps(table, m);
         }
     }),
     ("8: step end", |random, table| {
-        step_end_too_high(random, table);
-        if random.percent(30) {
-            step_end_too_high(random, table);
-        }
+        once_or_twice(random, table, step_end_too_high)
     }),
     (
         "8 before 9 and 24: step repeated, and a step end",
@@ -65,10 +81,7 @@ pub const TABLE_EDITS: &[ByteEdit] = &[
         },
     ),
     ("9 or 24: step repeated", |random, table| {
-        repeat_step(random, table);
-        if random.percent(30) {
-            repeat_step(random, table);
-        }
+        once_or_twice(random, table, repeat_step)
     }),
     (
         "9 or 24: a step equal to the one before it",
@@ -83,60 +96,151 @@ pub const TABLE_EDITS: &[ByteEdit] = &[
             table[later - 2..later + 2].rotate_left(2);
         }
     }),
-    ("24: the steps of version 1 in version 2", |_, table| {
-        table[3..5].copy_from_slice(&[0, 2]);
-    }),
+    (
+        "24: the steps of version 1 in a later version",
+        |random, table| {
+            set_version(table, random.pick(&[2, 3]));
+        },
+    ),
 ];
 
 /// Changes after which the table is still well formed.
 pub const TABLE_RESIZES: &[ByteEdit] = &[
     ("n raised to 63 or 64", |random, table| {
         let n = random.pick(&[63, 64]);
-        let marks_end = 9 + 2 * states(table);
+        let marks_end = layout(table).mark(states(table));
         let further = 2 * (n - states(table).min(n));
         table.splice(marks_end..marks_end, vec![0; further]);
         table[5] = table[5].max(n as u8);
     }),
     ("m raised to 255 or 256", |random, table| {
         let (n, wanted) = (states(table), random.pick(&[255, 256]));
+        let first_step = first_step(table);
         let mut m = steps(table);
         for pair in 0..n * n {
             let step = [(pair / n) as u8, (pair % n) as u8];
-            let present = table[9 + 2 * n..].chunks(2).any(|other| other == step);
+            let present = table[first_step..].chunks(2).any(|other| other == step);
             if m < wanted && !present {
                 table.extend(step);
                 m += 1;
             }
         }
-        table[7..9].copy_from_slice(&(m as u16).to_be_bytes());
-        if table[3..5] == [0, 2] {
-            let mut steps: Vec<[u8; 2]> = table[9 + 2 * n..]
-                .chunks_exact(2)
-                .map(|step| [step[0], step[1]])
-                .collect();
-            steps.sort();
-            table.splice(9 + 2 * n.., steps.concat());
+        set_steps(table, m);
+        if layout(table).rising {
+            sort_steps(table);
         }
     }),
-    ("the steps of version 2 in version 1", |_, table| {
-        table[3..5].copy_from_slice(&[0, 1]);
+    ("the same table in another version", |random, table| {
+        set_version(table, random.pick(&[1, 2, 3]));
+        if layout(table).rising {
+            sort_steps(table);
+        }
+    }),
+    ("another start", |random, table| {
+        let start = random.below(states(table));
+        if layout(table).start_word {
+            change_starts(table, |_| 1 << start);
+        } else {
+            table[6] = start as u8;
+        }
+    }),
+    ("a further start", |random, table| {
+        let start = random.below(states(table));
+        change_starts(table, |starts| starts | 1 << start);
+    }),
+    ("the last state a start", |_, table| {
+        let last = states(table) - 1;
+        change_starts(table, |starts| starts | 1 << last);
+    }),
+    ("all starts", |_, table| {
+        let n = states(table);
+        change_starts(table, |_| u64::MAX >> (64 - n));
     }),
 ];
+
+/// Makes the change, and in some cases makes it again.
+fn once_or_twice(random: &mut Random, table: &mut [u8], change: fn(&mut Random, &mut [u8])) {
+    change(random, table);
+    if random.percent(30) {
+        change(random, table);
+    }
+}
+
+fn layout(table: &[u8]) -> TableLayout {
+    TableLayout::of_file(table).expect("the version is known")
+}
 
 fn states(table: &[u8]) -> usize {
     table[5] as usize
 }
 
 fn steps(table: &[u8]) -> usize {
-    table[7] as usize * 256 + table[8] as usize
+    let bytes = &table[layout(table).m()];
+    bytes[0] as usize * 256 + bytes[1] as usize
 }
 
-fn length(n: usize, m: usize) -> usize {
-    9 + 2 * n + 2 * m
+fn set_steps(table: &mut [u8], m: usize) {
+    let place = layout(table).m();
+    table[place].copy_from_slice(&(m as u16).to_be_bytes());
+}
+
+fn first_step(table: &[u8]) -> usize {
+    layout(table).step(states(table), 0)
+}
+
+fn sort_steps(table: &mut Vec<u8>) {
+    let first_step = first_step(table);
+    let mut steps: Vec<[u8; 2]> = table[first_step..]
+        .chunks_exact(2)
+        .map(|step| [step[0], step[1]])
+        .collect();
+    steps.sort();
+    table.splice(first_step.., steps.concat());
+}
+
+/// Changes the start word, where the table has one.
+fn change_starts(table: &mut [u8], change: impl FnOnce(u64) -> u64) {
+    if layout(table).start_word {
+        let starts = change(start_word(table));
+        let place = layout(table).starts();
+        table[place].copy_from_slice(&starts.to_be_bytes());
+    }
+}
+
+fn start_word(table: &[u8]) -> u64 {
+    let bytes = table[layout(table).starts()].iter();
+    bytes.fold(0, |high, &byte| high << 8 | u64::from(byte))
+}
+
+/// Sets a bit that stands for no state in the start word, where the table has one.
+fn add_start_too_high(random: &mut Random, table: &mut [u8]) {
+    let n = states(table);
+    if n < 64 {
+        let any = random.within(n, 63);
+        let start = random.pick(&[n, n, 63, any]);
+        change_starts(table, |starts| starts | 1 << start);
+    }
+}
+
+/// Puts a table into another version and leaves its steps as they are. Of several starts
+/// the first is kept where there is no room for more.
+fn set_version(table: &mut Vec<u8>, version: u16) {
+    let before = layout(table);
+    let starts = start_word(table);
+    table[3..5].copy_from_slice(&version.to_be_bytes());
+    match (before.start_word, layout(table).start_word) {
+        (true, false) => {
+            table.splice(before.starts(), [starts.trailing_zeros() as u8]);
+        }
+        (false, true) => {
+            table.splice(before.starts(), (1u64 << starts).to_be_bytes());
+        }
+        _ => {}
+    }
 }
 
 fn step_end_too_high(random: &mut Random, table: &mut [u8]) {
-    let first_step = 9 + 2 * states(table);
+    let first_step = first_step(table);
     if table.len() > first_step {
         let n = table[5];
         let place = random.within(first_step, table.len() - 1);
@@ -147,7 +251,7 @@ fn step_end_too_high(random: &mut Random, table: &mut [u8]) {
 /// Where a step begins that has one before it.
 fn any_later_step(random: &mut Random, table: &[u8]) -> Option<usize> {
     let m = steps(table);
-    (m >= 2).then(|| 9 + 2 * states(table) + 2 * random.within(1, m - 1))
+    (m >= 2).then(|| first_step(table) + 2 * random.within(1, m - 1))
 }
 
 fn repeat_step(random: &mut Random, table: &mut [u8]) {
@@ -155,8 +259,71 @@ fn repeat_step(random: &mut Random, table: &mut [u8]) {
     if m >= 2 {
         let later = random.within(1, m - 1);
         let earlier = random.below(later);
-        let first_step = 9 + 2 * states(table);
+        let first_step = first_step(table);
         let from = first_step + 2 * earlier;
         table.copy_within(from..from + 2, first_step + 2 * later);
+    }
+}
+
+#[cfg(test)]
+mod tests {
+    use super::*;
+    use crate::families::any_system;
+    use crate::system::VERSIONS;
+    use std::collections::BTreeSet;
+
+    /// The number with which the left table is refused, or 0.
+    fn refusal(table: &[u8]) -> u64 {
+        match oracle::judge(table, &[], &[]) {
+            [_, 1, ..] => 0,
+            [code, ..] => code,
+        }
+    }
+
+    /// A near miss is refused with a number of its label or not at all, and each version
+    /// gets each of its numbers.
+    #[test]
+    fn labels_have_the_number_of_the_answer() {
+        let mut random = Random::new(1);
+        let mut seen = BTreeSet::new();
+        for _ in 0..1_000 {
+            let table = any_system(&mut random, VERSIONS).left_bytes();
+            for (label, edit) in TABLE_EDITS {
+                let mut edited = table.clone();
+                edit(&mut random, &mut edited);
+                let code = refusal(&edited);
+                let numbers = label.split(" before ").next().unwrap_or(label);
+                let numbers = numbers.split(':').next().unwrap_or(numbers);
+                let mut said = numbers.split(' ').filter_map(|word| word.parse().ok());
+                let expected =
+                    code == 0 || !label.contains(':') || said.any(|said: u64| said == code);
+                assert!(expected, "{code} for {label}");
+                seen.insert((table[4], code));
+            }
+        }
+        for (version, codes) in [
+            (1, [1, 2, 3, 4, 5, 6, 7, 8, 9]),
+            (2, [1, 2, 3, 4, 5, 6, 7, 8, 24]),
+            (3, [1, 2, 3, 4, 28, 6, 7, 8, 24]),
+        ] {
+            let missing = codes
+                .into_iter()
+                .find(|&code| !seen.contains(&(version, code)));
+            assert_eq!(missing, None, "version {version}");
+        }
+    }
+
+    /// One change or two, and the table is still well formed.
+    #[test]
+    fn resized_tables_are_well_formed() {
+        let mut random = Random::new(2);
+        for _ in 0..1_000 {
+            let mut table = any_system(&mut random, VERSIONS).left_bytes();
+            for _ in 0..2 {
+                let (label, edit) = random.pick(TABLE_RESIZES);
+                edit(&mut random, &mut table);
+                assert_eq!(refusal(&table), 0, "{label}");
+            }
+        }
     }
 }

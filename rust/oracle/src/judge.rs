@@ -42,8 +42,8 @@ pub fn accept(
     let right = read_table(right, 1)?;
     let certificate = read_certificate(certificate, &left, &right)?;
 
-    test_starts(&left, &right, &certificate.related)?;
     let sides = both_sides(&left, &right, &certificate.related);
+    test_starts(&sides)?;
     let mut pairs = 0;
     let mut met = [0, 0, 0];
     for look in judging_order(&sides) {

@@ -26,7 +26,7 @@ pub use listing::{list, listing_program, Line};
 pub use maker::{make, make_by_relaxing};
 pub use path::path_property;
 pub use program::{pieces, program};
-pub use table::{Step, Table};
+pub use table::{Step, Table, TableLayout};
 
 /// "Six numbers: code, file, a, b, c, d."
 pub type Answer = [u64; 6];

@@ -54,9 +54,9 @@ fn certificate_for(
     if output_length < layout.length() {
         return Err([21, 3, layout.length() as u64, 0, 0, 0]);
     }
-    test_starts(&left, &right, &related)?;
-
     let sides = both_sides(&left, &right, &related);
+    test_starts(&sides)?;
+
     let chase = [chase(&sides[0]), chase(&sides[1])];
     for look in judging_order(&sides) {
         match look {

@@ -2,14 +2,15 @@
 //! ranks nor matched duties nor chains, so it can check the maker from outside.
 
 use crate::certificate::read_rows;
-use crate::side::{both_sides, Side};
+use crate::side::{both_sides, first_unpaired, Side};
 use crate::table::read_table;
 use std::collections::BTreeSet;
 
 /// Has the relation the path property? "The starts are related, related states
 /// have equal marks, and, for every related pair and every finite path from
 /// either state, the other state has a path, and the two can be cut into blocks,
-/// such that four things hold together."
+/// such that four things hold together." Of the starts "the starts rule is also what the
+/// path property asks".
 ///
 /// The tables and the relation must be well formed. The time grows steeply with
 /// the number of states; up to four a side it is short.
@@ -20,14 +21,10 @@ pub fn path_property(left: &[u8], right: &[u8], relation: &[u8]) -> bool {
     assert_eq!(relation.len(), 8 * n1, "the relation is well formed");
     let related = read_rows(relation, n1, n2).expect("the relation is well formed");
 
-    let starts_related = related[left.start][right.start];
+    let sides = both_sides(&left, &right, &related);
     let marks_equal =
         (0..n1).all(|s| (0..n2).all(|t| !related[s][t] || left.marks[s] == right.marks[t]));
-    starts_related
-        && marks_equal
-        && both_sides(&left, &right, &related)
-            .iter()
-            .all(every_path_is_matched)
+    first_unpaired(&sides).is_none() && marks_equal && sides.iter().all(every_path_is_matched)
 }
 
 /// A set of states of one table, one bit each.

@@ -92,13 +92,33 @@ pub fn judging_order(sides: &[Side; 2]) -> Vec<Look> {
     looks
 }
 
-/// "starts unrelated": 16, with "a left start, b right start".
-pub fn test_starts(left: &Table, right: &Table, related: &[Vec<bool>]) -> Result<(), Answer> {
-    if related[left.start][right.start] {
-        Ok(())
-    } else {
-        Err([16, 2, left.start as u64, right.start as u64, 0, 0])
+/// "The starts rule now is that each left start is related to some right start and
+/// each right start to some left one." Gives the side and the number of the first
+/// start that is unpaired, "left first".
+pub fn first_unpaired(sides: &[Side; 2]) -> Option<(usize, usize)> {
+    for (number, side) in sides.iter().enumerate() {
+        for &s in &side.own.starts {
+            if !side.other.starts.iter().any(|&t| side.related[s][t]) {
+                return Some((number, s));
+            }
+        }
     }
+    None
+}
+
+/// 16. "Where either table has a start word, 16 returns the side in a and the first
+/// unpaired start in b, left first"; otherwise "a left start, b right start".
+pub fn test_starts(sides: &[Side; 2]) -> Result<(), Answer> {
+    let Some((side, start)) = first_unpaired(sides) else {
+        return Ok(());
+    };
+    let (left, right) = (sides[0].own, sides[1].own);
+    let (a, b) = if left.layout().start_word || right.layout().start_word {
+        (side, start)
+    } else {
+        (left.starts[0], right.starts[0])
+    };
+    Err([16, 2, a as u64, b as u64, 0, 0])
 }
 
 /// "marks differ": 17, with "a s, b t".

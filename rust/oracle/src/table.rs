@@ -1,6 +1,7 @@
 //! Reading a table of states, marks and steps.
 
 use crate::Answer;
+use std::ops::Range;
 
 /// A step from one state to another. Steps are compared "by from, then by to".
 #[derive(Clone, Copy, Debug, PartialEq, Eq, PartialOrd, Ord)]
@@ -13,12 +14,88 @@ pub struct Step {
 #[derive(Clone, Debug, PartialEq, Eq)]
 pub struct Table {
     pub version: u16,
-    pub start: usize,
+    /// The starts, rising. "A table of an older version has one start."
+    pub starts: Vec<usize>,
     pub marks: Vec<u16>,
     pub steps: Vec<Step>,
 }
 
+/// What the version of a table decides: where everything stands in the file, and
+/// whether the steps rise.
+#[derive(Clone, Copy, Debug, PartialEq, Eq)]
+pub struct TableLayout {
+    /// How many bytes stand before the marks; the last two of them are m.
+    pub header: usize,
+    /// The starts are a 64-bit word, which stands "in place of byte 6".
+    pub start_word: bool,
+    /// The steps "rise by from, then by to".
+    pub rising: bool,
+}
+
+impl TableLayout {
+    /// The layout of this version, where there is such a version.
+    pub fn of(version: u16) -> Option<TableLayout> {
+        match version {
+            // "Byte 6: start, below n. Bytes 7, 8: m [...]. Then n marks of 16 bits. Then m
+            // steps, two bytes each, from and to, [...] any order."
+            1 => Some(TableLayout {
+                header: 9,
+                start_word: false,
+                rising: false,
+            }),
+            // "Table version 2 has the layout of version 1, but its steps rise"
+            2 => Some(TableLayout {
+                header: 9,
+                start_word: false,
+                rising: true,
+            }),
+            // "Table version 3 [...] has, in place of byte 6, a 64-bit word of starts, so its
+            // header is 16 bytes [...]. Steps rise as in version 2"
+            3 => Some(TableLayout {
+                header: 16,
+                start_word: true,
+                rising: true,
+            }),
+            _ => None,
+        }
+    }
+
+    /// The layout of the version that stands in these bytes, where it stands there.
+    pub fn of_file(bytes: &[u8]) -> Option<TableLayout> {
+        TableLayout::of(number(bytes.get(3..5)?) as u16)
+    }
+
+    /// Where the start or the word of starts stands.
+    pub fn starts(&self) -> Range<usize> {
+        6..self.header - 2
+    }
+
+    /// Where m stands.
+    pub fn m(&self) -> Range<usize> {
+        self.header - 2..self.header
+    }
+
+    /// The place of the first byte of the mark of state s.
+    pub fn mark(&self, s: usize) -> usize {
+        self.header + 2 * s
+    }
+
+    /// The place of the first byte of step j, where there are n states.
+    pub fn step(&self, n: usize, j: usize) -> usize {
+        self.mark(n) + 2 * j
+    }
+
+    /// "Length exactly 9 + 2n + 2m"; of version 3 "its length 16 + 2n + 2m".
+    pub fn length(&self, n: usize, m: usize) -> usize {
+        self.step(n, m)
+    }
+}
+
 impl Table {
+    pub fn layout(&self) -> TableLayout {
+        TableLayout::of(self.version).expect("a table has one of the versions")
+    }
+
     pub fn states(&self) -> usize {
         self.marks.len()
     }
@@ -54,7 +131,7 @@ pub fn number(bytes: &[u8]) -> usize {
 
 /// Reads a table, or gives the answer that turns it away. `file` is 0 for the
 /// left table and 1 for the right one. The causes are tried in rising order, 24 "in
-/// place of 9".
+/// place of 9" and 28 "where 5 is"; 1 has a second place.
 pub fn read_table(bytes: &[u8], file: u64) -> Result<Table, Answer> {
     let refuse = |code: u64, a: usize| Err([code, file, a as u64, 0, 0, 0]);
 
@@ -66,42 +143,55 @@ pub fn read_table(bytes: &[u8], file: u64) -> Result<Table, Answer> {
     if bytes[0..3] != *b"TPT" {
         return refuse(2, 0);
     }
-    // "3 is now for versions other than 1 and 2"
+    // "3 is now for versions other than 1 and 2"; "Table version 3, now passed by 3"
     let version = number(&bytes[3..5]) as u16;
-    if version != 1 && version != 2 {
+    let Some(layout) = TableLayout::of(version) else {
         return refuse(3, 0);
+    };
+    // "a file with a start word and under 16 bytes gets 1, right after 3 is tested"
+    if bytes.len() < layout.header {
+        return refuse(1, 0);
     }
     // "Byte 5: n, states, 1 to 64."
     let n = bytes[5] as usize;
     if n < 1 || n > 64 {
         return refuse(4, 0);
     }
+    let starts = number(&bytes[layout.starts()]);
+    let starts: Vec<usize> = if layout.start_word {
+        (0..64).filter(|s| starts >> s & 1 == 1).collect()
+    } else {
+        vec![starts]
+    };
+    let out_of_range = starts.iter().any(|&s| s >= n);
     // "Byte 6: start, below n."
-    let start = bytes[6] as usize;
-    if start >= n {
+    if !layout.start_word && out_of_range {
         return refuse(5, 0);
     }
-    // "Bytes 7, 8: m, steps, 0 to 256."
-    let m = number(&bytes[7..9]);
+    // "28 when the word is 0 or has a bit n or more, tested where 5 is, with only the
+    // file returned."
+    if layout.start_word && (starts.is_empty() || out_of_range) {
+        return refuse(28, 0);
+    }
+    // "m, steps, 0 to 256"
+    let m = number(&bytes[layout.m()]);
     if m > 256 {
         return refuse(6, 0);
     }
-    // "Length exactly 9 + 2n + 2m."
-    if bytes.len() != 9 + 2 * n + 2 * m {
+    if bytes.len() != layout.length(n, m) {
         return refuse(7, 0);
     }
 
     // "Then n marks of 16 bits."
     let marks: Vec<u16> = (0..n)
-        .map(|s| number(&bytes[9 + 2 * s..9 + 2 * s + 2]) as u16)
+        .map(|s| number(&bytes[layout.mark(s)..layout.mark(s + 1)]) as u16)
         .collect();
 
     // "Then m steps, two bytes each, from and to"
-    let first_step = 9 + 2 * n;
     let steps: Vec<Step> = (0..m)
         .map(|j| Step {
-            from: bytes[first_step + 2 * j] as usize,
-            to: bytes[first_step + 2 * j + 1] as usize,
+            from: bytes[layout.step(n, j)] as usize,
+            to: bytes[layout.step(n, j) + 1] as usize,
         })
         .collect();
 
@@ -109,21 +199,22 @@ pub fn read_table(bytes: &[u8], file: u64) -> Result<Table, Answer> {
     if let Some(j) = (0..m).find(|&j| steps[j].from >= n || steps[j].to >= n) {
         return refuse(8, j);
     }
-    if version == 1 {
+    if layout.rising {
+        // "24 when a step of a version 2 table is not greater than the one before it";
+        // in version 3 "steps rise as in version 2, under 24"
+        if let Some(j) = (1..m).find(|&j| !(steps[j] > steps[j - 1])) {
+            return refuse(24, j);
+        }
+    } else {
         // "no step twice"
         if let Some(j) = (0..m).find(|&j| steps[..j].contains(&steps[j])) {
             return refuse(9, j);
-        }
-    } else {
-        // "24 when a step of a version 2 table is not greater than the one before it"
-        if let Some(j) = (1..m).find(|&j| !(steps[j] > steps[j - 1])) {
-            return refuse(24, j);
         }
     }
 
     Ok(Table {
         version,
-        start,
+        starts,
         marks,
         steps,
     })

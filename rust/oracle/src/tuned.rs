@@ -8,7 +8,10 @@ use crate::Answer;
 /// to. The steps from s, in table order, are `order[first[s]..first[s + 1]]`.
 pub(crate) struct Table<'a> {
     pub states: usize,
-    pub start: usize,
+    /// A bit for each start.
+    pub starts: u64,
+    /// The starts stand in the file as a word.
+    pub start_word: bool,
     pub marks: &'a [u8],
     pub steps: &'a [u8],
     pub successors: [u64; 64],
@@ -55,9 +58,7 @@ pub(crate) fn accept(
     let rows = read_rows(rows, n2)?;
     let columns = turn(&rows, n1);
 
-    if rows[left.start] >> right.start & 1 == 0 {
-        return Err([16, 2, left.start as u64, right.start as u64, 0, 0]);
-    }
+    test_starts(&left, &right, &rows, &columns)?;
     let sides = [
         Side {
             own: &left,
@@ -88,6 +89,30 @@ pub(crate) fn accept(
     }
     let pairs: u32 = rows.iter().map(|row| row.count_ones()).sum();
     then(&sides, [0, 0, pairs as u64, met[0], met[1], met[2]])
+}
+
+/// 16, where a start is related to no start of the other table.
+pub(crate) fn test_starts(
+    left: &Table,
+    right: &Table,
+    rows: &[u64; 64],
+    columns: &[u64; 64],
+) -> Result<(), Answer> {
+    let unpaired = |starts, related: &[u64; 64], others| {
+        bits(starts).find(|&start| related[start] & others == 0)
+    };
+    let (side, start) = if let Some(start) = unpaired(left.starts, rows, right.starts) {
+        (0, start)
+    } else if let Some(start) = unpaired(right.starts, columns, left.starts) {
+        (1, start)
+    } else {
+        return Ok(());
+    };
+    if left.start_word || right.start_word {
+        return Err([16, 2, side, start as u64, 0, 0]);
+    }
+    let [left, right] = [left.starts, right.starts].map(|word| u64::from(word.trailing_zeros()));
+    Err([16, 2, left, right, 0, 0])
 }
 
 /// Judges the steps from the own state s at the other state t, and counts the
@@ -128,25 +153,38 @@ pub(crate) fn read_table(bytes: &[u8], file: u64) -> Result<Table<'_>, Answer> {
         return refuse(2, 0);
     }
     let version = u16::from_be_bytes([bytes[3], bytes[4]]);
-    if !(1..=2).contains(&version) {
+    if !(1..=3).contains(&version) {
         return refuse(3, 0);
+    }
+    let start_word = version == 3;
+    let header = if start_word { 16 } else { 9 };
+    if bytes.len() < header {
+        return refuse(1, 0);
     }
     let states = bytes[5] as usize;
     if !(1..=64).contains(&states) {
         return refuse(4, 0);
     }
-    let start = bytes[6] as usize;
-    if start >= states {
-        return refuse(5, 0);
-    }
-    let m = u16::from_be_bytes([bytes[7], bytes[8]]) as usize;
+    let starts = if start_word {
+        let word = u64::from_be_bytes(bytes[6..14].try_into().unwrap());
+        if word == 0 || word & !below(states) != 0 {
+            return refuse(28, 0);
+        }
+        word
+    } else {
+        if bytes[6] as usize >= states {
+            return refuse(5, 0);
+        }
+        1 << bytes[6]
+    };
+    let m = u16::from_be_bytes([bytes[header - 2], bytes[header - 1]]) as usize;
     if m > 256 {
         return refuse(6, 0);
     }
-    if bytes.len() != 9 + 2 * states + 2 * m {
+    if bytes.len() != header + 2 * states + 2 * m {
         return refuse(7, 0);
     }
-    let (marks, steps) = bytes[9..].split_at(2 * states);
+    let (marks, steps) = bytes[header..].split_at(2 * states);
     if let Some(end) = steps.iter().position(|&end| end as usize >= states) {
         return refuse(8, end / 2);
     }
@@ -159,7 +197,7 @@ pub(crate) fn read_table(bytes: &[u8], file: u64) -> Result<Table<'_>, Answer> {
         if version == 1 && successors[from] >> to & 1 == 1 {
             return refuse(9, j);
         }
-        if version == 2 && before >= Some(step) {
+        if version != 1 && before >= Some(step) {
             return refuse(24, j);
         }
         before = Some(step);
@@ -179,7 +217,8 @@ pub(crate) fn read_table(bytes: &[u8], file: u64) -> Result<Table<'_>, Answer> {
     }
     Ok(Table {
         states,
-        start,
+        starts,
+        start_word,
         marks,
         steps,
         successors,
@@ -216,15 +255,19 @@ fn read_header(bytes: &[u8], [n1, n2, m1, m2]: [usize; 4]) -> Result<(), Answer>
 
 /// Rows past the last state stay 0.
 pub(crate) fn read_rows(bytes: &[u8], n2: usize) -> Result<[u64; 64], Answer> {
-    let allowed = u64::MAX >> (64 - n2);
     let mut rows = [0; 64];
     for (s, row) in bytes.chunks_exact(8).enumerate() {
         rows[s] = u64::from_be_bytes(row.try_into().unwrap());
-        if rows[s] & !allowed != 0 {
+        if rows[s] & !below(n2) != 0 {
             return Err([15, 2, s as u64, 0, 0, 0]);
         }
     }
     Ok(rows)
+}
+
+/// A bit for each of these many states, of which there is one at least.
+fn below(states: usize) -> u64 {
+    u64::MAX >> (64 - states)
 }
 
 /// Turns rows into columns.

@@ -4,7 +4,7 @@
 //! until a round changes nothing. Chains are lengthened by rounds, for all states
 //! of a side together. It shares no code with the plain maker.
 
-use crate::tuned::{bits, read_rows, read_table, turn, Table};
+use crate::tuned::{bits, read_rows, read_table, test_starts, turn, Table};
 use crate::Answer;
 
 /// "Input: two tables, n1 rows of 8 bytes, an output."
@@ -43,11 +43,9 @@ fn make_or_refuse(
     if output.len() < length {
         return Err([21, 3, length as u64, 0, 0, 0]);
     }
-    if rows[left.start] >> right.start & 1 == 0 {
-        return Err([16, 2, left.start as u64, right.start as u64, 0, 0]);
-    }
-
     let columns = turn(&rows, n1);
+    test_starts(&left, &right, &rows, &columns)?;
+
     let sides = [
         Side::new(&left, &right, &rows),
         Side::new(&right, &left, &columns),

@@ -63,6 +63,16 @@ fn main() {
     println!("64 states and 256 steps a side where no size is given, medians of {ROUNDS} rounds");
     println!("the judge");
     judge("accepted", &all_related(), [0, 0, 4096, 32_768, 0, 0]);
+    judge(
+        "accepted, 64 starts a side",
+        &all_starts(),
+        [0, 0, 4096, 32_768, 0, 0],
+    );
+    judge(
+        "last start fails",
+        &last_start_fails(),
+        [16, 2, 1, 63, 0, 0],
+    );
     judge("first check fails", &first_fails(), [17, 2, 0, 0, 0, 0]);
     judge("last check fails", &last_fails(), [18, 2, 1, 63, 63, 255]);
     println!("the maker");
@@ -95,10 +105,9 @@ fn judge(name: &'static str, system: &System, answer: Answer) {
     let timed = |(version, judge)| (version, boxed(move || call(judge)));
     report(&Contest {
         name,
-        work: if answer[0] == 17 {
-            (0, "obligations")
-        } else {
-            obligations(system)
+        work: match answer[0] {
+            16 | 17 => (0, "obligations"),
+            _ => obligations(system),
         },
         calls: JUDGES.map(timed).into(),
     });
@@ -216,6 +225,21 @@ fn obligations(system: &System) -> (usize, &'static str) {
         .map(|(s, t)| steps(&system.left, s) + steps(&system.right, t))
         .sum();
     (count, "obligations")
+}
+
+/// All states of both tables are initial states.
+fn all_starts() -> System {
+    let systems = all_related().in_all_versions();
+    systems.into_iter().last().expect("there is a last version")
+}
+
+/// The last initial state of the right table is related to none of the left table's.
+fn last_start_fails() -> System {
+    let mut system = all_starts();
+    for row in &mut system.related {
+        row[63] = false;
+    }
+    system
 }
 
 /// The labels of the first pair differ.

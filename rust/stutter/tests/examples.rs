@@ -2,6 +2,7 @@
 //! numbers that stand in their files; and runs of those accepted, followed on both sides.
 
 use compare::Given;
+use inputs::System;
 use oracle::Table;
 use std::fs;
 use std::path::Path;
@@ -17,10 +18,10 @@ fn the_systems_get_the_answers_beside_them() {
         }
     }
     codes.sort();
-    assert_eq!(codes, [0, 0, 0, 22, 23, 23]);
+    assert_eq!(codes, [0, 0, 0, 0, 16, 22, 23, 23]);
 }
 
-/// Makes and judges one system, follows a run of each side where it is accepted, and gives
+/// Makes and judges one system, follows runs of each side where it is accepted, and gives
 /// the maker's code.
 fn run(path: &Path) -> u64 {
     let name = path.display();
@@ -38,17 +39,17 @@ fn run(path: &Path) -> u64 {
         assert_eq!(judged, oracle::judge(&left, &right, &output), "{name}");
         assert_eq!(Some(judged), example.judge, "{name}: its line 'judge'");
         assert_eq!(judged[0], 0, "{name}");
-        for side in [0, 1] {
-            let system = &example.system;
+        for (side, first, start) in paired_starts(&example.system) {
             let given = Given {
                 left: &left,
                 right: &right,
                 certificate: &output,
                 side: side as u64,
-                start: system.table(1 - side).start as u64,
-                path: &long_path(system.table(side)),
+                start: start as u64,
+                path: &long_path(example.system.table(side), first),
             };
-            follow(&format!("{name}, side {side}"), &given);
+            let run = format!("{name}, side {side} from {first} and {start}");
+            follow(&run, &given);
         }
     } else {
         assert_eq!(example.judge, None, "{name}: there is nothing to judge");
@@ -56,10 +57,23 @@ fn run(path: &Path) -> u64 {
     made[0]
 }
 
-/// A path of 256 states from the start that takes the steps of each state in turn. No
+/// Each side, each of its starts, and each start of the other side that this is related to.
+fn paired_starts(system: &System) -> Vec<(usize, usize, usize)> {
+    let mut paired = Vec::new();
+    for &left in &system.left.starts {
+        for &right in &system.right.starts {
+            if system.related[left][right] {
+                paired.extend([(0, left, right), (1, right, left)]);
+            }
+        }
+    }
+    paired
+}
+
+/// A path of 256 states from this one that takes the steps of each state in turn. No
 /// state of these tables is a dead end.
-fn long_path(table: &Table) -> Vec<u8> {
-    let mut state = table.start;
+fn long_path(table: &Table, first: usize) -> Vec<u8> {
+    let mut state = first;
     let mut path = vec![state as u8];
     let mut visits = vec![0; table.states()];
     while path.len() < 256 {
@@ -85,6 +99,6 @@ fn follow(name: &str, given: &Given) {
     assert_eq!(followed[0], 0, "{name}");
     let matching = given.matching(followed[2], &states, &blocks);
     let matching = matching.unwrap_or_else(|why| panic!("{name}: {why}"));
-    // The path returns to its start, so it has many blocks.
+    // The path comes back to its states, so it has many blocks.
     assert!(matching.len() > 20, "{name}: {} blocks", matching.len());
 }

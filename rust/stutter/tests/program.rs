@@ -27,14 +27,14 @@ static PROGRAMS: [Program; 2] = [
     Program {
         name: "judge",
         oracle: oracle::program,
-        compared: |program| compare::program(5_000, 31, |input| program.run(input)),
+        compared: |program| compare::program(8_000, 31, |input| program.run(input)),
         example: "0 0 3 4 1 1\n",
         most_lines: 1,
     },
     Program {
         name: "listing",
         oracle: oracle::listing_program,
-        compared: |program| compare::listing(5_000, 32, |input| program.run(input)),
+        compared: |program| compare::listing(8_000, 32, |input| program.run(input)),
         example: "0 0 0 0 3 1\n1 0 0 0 2 0\n0 0 1 0 1 2\n\
                   1 0 1 1 1 1\n0 1 2 1 1 0\n1 1 2 2 1 0\n",
         most_lines: 32_768,
@@ -114,10 +114,23 @@ fn example() -> Vec<u8> {
     std::fs::read(repository().join("crates/judge/stdin")).expect("the example's input is there")
 }
 
-/// 64 states and 256 steps a side, every pair related: the longest certificate.
+/// P, Q and K, where Q has a start word with the starts 0 and 1.
+fn example_with_start_word() -> Vec<u8> {
+    let input = example();
+    let [p, q, k] = oracle::pieces(&input);
+    let starts = [0, 0, 0, 0, 0, 0, 0, 0b11];
+    let q = [b"TPT\0\x03\x03", &starts[..], &q[7..]].concat();
+    joined(&[p.to_vec(), q, k.to_vec()])
+}
+
+/// 64 states, 64 starts and 256 steps a side, every pair related: the longest tables and
+/// the longest certificate.
 fn largest_accepted() -> Vec<u8> {
-    let input = inputs::all_related().input();
-    assert_eq!(input.len(), 3 * 2 + 2 * (9 + 2 * 64 + 2 * 256) + 41_483);
+    let systems = inputs::all_related().in_all_versions();
+    let input = systems[systems.len() - 1].input();
+    assert_eq!(input.len(), 3 * 2 + 2 * (16 + 2 * 64 + 2 * 256) + 41_483);
+    let starts = &input[2 + 6..2 + 14];
+    assert_eq!(starts, [0xff; 8]);
     input
 }
 
@@ -129,8 +142,10 @@ fn thrice(piece: &[u8]) -> Vec<u8> {
 #[test]
 fn the_examples_are_the_documents() {
     for program in &PROGRAMS {
-        assert_eq!((program.oracle)(&example()), program.example);
-        assert_eq!(program.run(&example()), program.example);
+        for input in [example(), example_with_start_word()] {
+            assert_eq!((program.oracle)(&input), program.example);
+            assert_eq!(program.run(&input), program.example);
+        }
     }
 }
 

@@ -24,10 +24,10 @@ fn answers(system: &System, ranks: &[u8]) -> [[u64; 6]; 2] {
     [made, stutter::judge(&left, &right, &output)]
 }
 
-/// In version 2 the files of both are equal, and so are the answers with their step
+/// Where steps rise, the files of both are equal, and so are the answers with their step
 /// numbers. In version 1 the files differ, and a step has another number.
 #[test]
-fn in_version_2_both_get_the_same_step_numbers() {
+fn where_steps_rise_both_get_the_same_step_numbers() {
     let mut random = Random::new(51);
     let mut told_apart = [0, 0];
     for _ in 0..3_000 {
@@ -35,10 +35,12 @@ fn in_version_2_both_get_the_same_step_numbers() {
         let certificate = system.certificate_with_any_ranks(&mut random, 3);
         let ranks = &certificate[11..];
 
-        let [first, second] = saved_twice(&mut random, &system, 2);
-        assert_eq!(first.left_bytes(), second.left_bytes());
-        assert_eq!(first.right_bytes(), second.right_bytes());
-        assert_eq!(answers(&first, ranks), answers(&second, ranks));
+        for version in [2, 3] {
+            let [first, second] = saved_twice(&mut random, &system, version);
+            assert_eq!(first.left_bytes(), second.left_bytes());
+            assert_eq!(first.right_bytes(), second.right_bytes());
+            assert_eq!(answers(&first, ranks), answers(&second, ranks));
+        }
 
         let [first, second] = saved_twice(&mut random, &system, 1);
         let (first, second) = (answers(&first, ranks), answers(&second, ranks));

@@ -1,7 +1,7 @@
 //! Tables and relations in a readable form, as under `examples/systems`, where its
 //! README says what each line means.
 
-use inputs::System;
+use inputs::{save_in, System};
 use oracle::{Answer, Step, Table};
 use std::fs;
 use std::path::Path;
@@ -21,7 +21,7 @@ struct Named {
     states: Vec<String>,
     labels: Vec<(String, u16)>,
     marks: Vec<u16>,
-    start: Option<usize>,
+    starts: Vec<usize>,
     steps: Vec<Step>,
 }
 
@@ -106,7 +106,13 @@ fn read_table(path: &Path) -> Result<Named, String> {
                 table.marks.push(*mark);
                 table.states.push(name.to_string());
             }
-            ["start", name] => table.start = Some(line.state(&table, name)?),
+            ["start", name] => {
+                let start = line.state(&table, name)?;
+                if table.starts.contains(&start) {
+                    return line.fail("names a start twice");
+                }
+                table.starts.push(start);
+            }
             ["step", from, "->", ends @ ..] => {
                 let from = line.state(&table, from)?;
                 for to in ends {
@@ -121,20 +127,26 @@ fn read_table(path: &Path) -> Result<Named, String> {
 }
 
 impl Named {
+    /// The table as it is written: in version 1, or with several starts in version 3.
     fn table(self, path: &Path) -> Result<Table, String> {
         let fail = |what| Err(format!("{}: {what}", path.display()));
         if self.states.len() > 64 || self.steps.len() > 256 {
             return fail("a table has more than 64 states or more than 256 steps");
         }
-        let Some(start) = self.start else {
+        if self.starts.is_empty() {
             return fail("a table has no line 'start'");
-        };
-        Ok(Table {
-            version: 1,
-            start,
+        }
+        let version = if self.starts.len() == 1 { 1 } else { 3 };
+        let mut starts = self.starts;
+        starts.sort();
+        let mut table = Table {
+            version,
+            starts,
             marks: self.marks,
             steps: self.steps,
-        })
+        };
+        save_in(&mut table, version);
+        Ok(table)
     }
 }
 
@@ -227,6 +239,19 @@ mod tests {
         assert_eq!(example.judge, None);
     }
 
+    /// With more than one start the table is of version 3, and its steps rise.
+    #[test]
+    fn several_starts_make_a_start_word() {
+        let lines = format!("{TABLE}start a\nstep b -> c\n");
+        let example = read_lines(&lines, "related equal labels\nmake 0 0 0 0 0 0\n");
+        let system = example.expect("the files can be read").system;
+        let (starts, marks) = ([0, 0, 0, 0, 0, 0, 0, 3], [0, 7, 1, 2, 0, 7]);
+        let steps = [0, 1, 0, 2, 1, 2, 2, 0];
+        let table = [b"TPT\0\x03\x03", &starts[..], b"\0\x04", &marks, &steps].concat();
+        assert_eq!(system.left_bytes(), table);
+        assert_eq!(system.right_bytes(), table);
+    }
+
     #[test]
     fn equal_labels_are_related() {
         let example = read_lines(TABLE, "related equal labels\nmake 0 0 0 0 0 0\n");
@@ -243,6 +268,11 @@ mod tests {
             (
                 table("state a seven"),
                 "table:10: 'state a seven' names a state twice",
+            ),
+            (table("start b"), "table:10: 'start b' names a start twice"),
+            (
+                table("start d"),
+                "names a state that the table does not have",
             ),
             (table("state d new"), "that no line before it names"),
             (

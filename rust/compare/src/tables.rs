@@ -1,0 +1,46 @@
+//! What stands in well-formed tables and in a relation, read from their bytes.
+
+use oracle::TableLayout;
+
+/// The layout that the version of a table gives it.
+pub fn layout(table: &[u8]) -> TableLayout {
+    TableLayout::of_file(table).expect("the version is known")
+}
+
+pub fn version(table: &[u8]) -> u16 {
+    u16::from_be_bytes([table[3], table[4]])
+}
+
+pub fn states(table: &[u8]) -> usize {
+    table[5] as usize
+}
+
+/// The starts, rising.
+pub fn starts(table: &[u8]) -> Vec<usize> {
+    let layout = layout(table);
+    let bytes = &table[layout.starts()];
+    if layout.start_word {
+        let states = 0..64;
+        states.filter(|&s| contains(bytes, s)).collect()
+    } else {
+        vec![bytes[0] as usize]
+    }
+}
+
+/// The steps, each from and to.
+pub fn steps(table: &[u8]) -> impl Iterator<Item = (usize, usize)> + '_ {
+    let steps = &table[layout(table).step(states(table), 0)..];
+    steps
+        .chunks_exact(2)
+        .map(|step| (step[0] as usize, step[1] as usize))
+}
+
+/// The left state s and the right state t are related in these rows.
+pub fn related(rows: &[u8], s: usize, t: usize) -> bool {
+    contains(&rows[8 * s..8 * s + 8], t)
+}
+
+/// The bit of a state stands in a word of eight bytes.
+fn contains(word: &[u8], state: usize) -> bool {
+    word[7 - state / 8] >> (state % 8) & 1 == 1
+}

@@ -1,0 +1,26 @@
+//! The plain and the tuned functions on the cases that were worked out by hand.
+
+use compare::Functions;
+use oracle::{make_by_relaxing, tuned, tuned_follow, tuned_maker};
+
+#[test]
+fn the_plain_functions_are_right() {
+    for make in [oracle::make, make_by_relaxing] {
+        let functions = Functions {
+            judge: oracle::judge,
+            make,
+            follow: oracle::follow,
+        };
+        functions.require_worked_starts();
+    }
+}
+
+#[test]
+fn the_tuned_functions_are_right() {
+    let functions = Functions {
+        judge: tuned::judge,
+        make: tuned_maker::make,
+        follow: tuned_follow::follow,
+    };
+    functions.require_worked_starts();
+}
