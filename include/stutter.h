@@ -27,15 +27,17 @@ extern "C" {
  *
  *   code     a, b, c, d
  *   0        a related pairs, b, c, d obligations met by the clauses 2a, 2b, 2c
- *   1 to 7   none: table under 9 bytes, its first three bytes, its version, its states, its start, its steps, its length
+ *   1 to 7   none: table under 9 bytes or with a start word under 16, its first three bytes, its version, its states, its start, its steps, its length
  *   8, 9     a the first step that ends outside the states, or that stands twice (version 1)
  *   10 to 14 none: certificate under 11 bytes, its first three bytes, its version, a size unlike the tables', its length
  *   15       a the first row with a state that the right table does not have
- *   16       a left start, b right start: they are not related
+ *   16       a left start, b right start: they are not related. Where either table has a start word: a side (0 left, 1 right), b its first start that
+ *            is related to no start of the other table, left side first
  *   17       a left state, b right state: they are related and their marks differ
  *   18, 19   a side (0 left, 1 right), b left state, c right state, d step: no clause holds of this step. 18 where no ranks could help: its end
  *            and the other state are not related, and no step of the other state stays related; 19 otherwise
- *   24       a the first step that is not greater than the one before it, by from, then by to (version 2, in place of 9)
+ *   24       a the first step that is not greater than the one before it, by from, then by to (versions 2 and 3, in place of 9)
+ *   28       none: the start word is 0 or has a bit that is no state (version 3, in place of 5)
  */
 bool stutter_judge(const uint8_t *left, size_t left_length,
                    const uint8_t *right, size_t right_length,
@@ -60,7 +62,7 @@ bool stutter_judge(const uint8_t *left, size_t left_length,
  *
  *   code     a, b, c, d
  *   0        a the bytes of the certificate, L
- *   1 to 9   as of stutter_judge, and so 24
+ *   1 to 9   as of stutter_judge, and so 24 and 28
  *   15 to 17 as of stutter_judge, with the rows of the relation
  *   20       none: the relation has not 8 bytes for each left state
  *   21       a the bytes that the certificate needs, L: the output has fewer. With an output of no bytes this asks for L
@@ -100,7 +102,7 @@ bool stutter_make(const uint8_t *left, size_t left_length,
  *
  *   code     a, b, c, d
  *   0        a the states of the path found
- *   1 to 19  as of stutter_judge, and so 24: the certificate is judged first
+ *   1 to 19  as of stutter_judge, and so 24 and 28: the certificate is judged first
  *   25       none: the side is not 0 or 1, or the path is empty, has over 256 states, a state that its table does not have, or two neighbours that are
  *            no step
  *   26       none: the start is no state of the other table, or is not related to the path's first state
