@@ -8,7 +8,7 @@ use Rattle.lists.specs.Below.{firstBelow}
 use Rattle.words.specs.Bits.{hasBit, hasFrom, HasFrom}
 use Rattle.lists.proofs.BelowLaws.{first-least}
 use Rattle.tables.specs.declared.Format.{Format}
-use Rattle.tables.specs.Table.{magicFits, versionOf, formatIn, statesOf, startsOf, stepsPart, fromOf, toOf}
+use Rattle.tables.specs.Table.{lastVersion, magicFits, versionOf, formatIn, statesOf, startsOf, stepsPart, fromOf, toOf}
 use Rattle.table_reader.specs.TableReading.{versionFits, statesFit, wrongStarts}
 use Rattle.table_reader.specs.TableReading.{endsOutside, sameStep, doubled, greater, notGreater}
 use Rattle.table_reader.specs.EndsSeen.{EndsBelow}
@@ -32,7 +32,7 @@ magic-decides third s =
     decides-as (and-decides (and-decides (eqb-decides _ _) (eqb-decides _ _)) (eqb-decides _ _))
     (λ p. (p .0 .0, p .0 .1, p .1)) (λ p. ((p .0, p .1), p .2))
 
-pub version-decides : (s : List ℕ) → Decides (versionFits s) ((1 ≤ versionOf s) × (versionOf s ≤ 3))
+pub version-decides : (s : List ℕ) → Decides (versionFits s) ((1 ≤ versionOf s) × (versionOf s ≤ lastVersion))
 unfolding versionFits
 version-decides s = and-decides (leb-decides _ _) (leb-decides _ _)
 

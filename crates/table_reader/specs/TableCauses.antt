@@ -1,4 +1,4 @@
--- The causes 1 to 9, 24 and 28, each worded as its row of document 01's table or as Ask 1 or 5 of document 02, and not through the reader. `file` is the
+-- The causes 1 to 9, 24 and 28, each worded as its row of document 01's table or as Ask 1, 5 or 6 of document 02, and not through the reader. `file` is the
 -- number of the file in the answer.
 use Prim.Native.Nat.{ℕ, zero, suc, _≤_, _<_}
 use mathlib.Core.Path.{_≡_}
@@ -50,8 +50,8 @@ headerCauses file s =
     (length s < 9) gives sixNumbers 1 file 0
     -- first three bytes
     ∷ (¬ MagicFits 0x54 s) gives sixNumbers 2 file 0
-    -- version other than 1, 2 and 3
-    ∷ (¬ ((1 ≤ versionOf s) × (versionOf s ≤ 3))) gives sixNumbers 3 file 0
+    -- version other than 1 to 4
+    ∷ (¬ ((1 ≤ versionOf s) × (versionOf s ≤ 4))) gives sixNumbers 3 file 0
     -- under the length of its header: 16 bytes with a start word, and 9, tested above, without
     ∷ (length s < layoutIn s .header) gives sixNumbers 1 file 0
     -- n not 1 to 64

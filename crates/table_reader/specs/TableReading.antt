@@ -1,4 +1,4 @@
--- What reading a table gives (document 01, Table and What is turned away; document 02, Asks 1 and 5): a header, or the first cause that applies.
+-- What reading a table gives (document 01, Table and What is turned away; document 02, Asks 1, 5 and 6): a header, or the first cause that applies.
 use Prim.Native.Nat.{ℕ, zero, suc}
 use mathlib.Core.List.{List}
 use mathlib.Core.Bool.{Bool, false, cond, not, _&&_, _||_}
@@ -45,7 +45,7 @@ use Rattle.refusals.specs.declared.TableRefusal.the-variants.{
 use Rattle.table_reader.specs.declared.TableRead.{TableRead}
 use Rattle.table_reader.specs.declared.TableRead.the-variants.{Good, Refused}
 
--- The version is 1 to 3.
+-- The version is 1 to 4.
 unfoldable pub versionFits : List ℕ → Bool
 versionFits s = leb 1 (versionOf s) && leb (versionOf s) lastVersion
 

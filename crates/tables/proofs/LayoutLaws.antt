@@ -7,7 +7,7 @@ use native.Mathlib.Omega.{arith}
 use lib.Dec.{T, leb, leb→le}
 use Rattle.lists.proofs.BoolLaws.{and-l, and-r}
 use Rattle.tables.specs.declared.Format.{Format}
-use Rattle.tables.specs.declared.Format.the-variants.{Version1, Version2, Version3}
+use Rattle.tables.specs.declared.Format.the-variants.{Version1, Version2, Version3, Version4}
 use Rattle.tables.specs.declared.Layout.{Layout}
 use Rattle.tables.specs.Table.{layoutOf}
 
@@ -37,6 +37,7 @@ unfolding layoutOf
 of-format Version1 = tt
 of-format Version2 = tt
 of-format Version3 = tt
+of-format Version4 = tt
 
 pub layout-fits : (f : Format) {l : Layout} → l ≡ layoutOf f → LayoutFits l
 layout-fits f e = rw e (told (layoutOf f) (of-format f))

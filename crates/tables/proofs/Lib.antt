@@ -1,3 +1,4 @@
--- Layouts, and an example of what the definitions give.
+-- Layouts, labels, and examples of what the definitions give.
 pub mod LayoutLaws
+pub mod LabelLaws
 pub mod ModelExamples

@@ -1,4 +1,4 @@
--- State tables (document 01, Table; document 02, Asks 1 and 5): where each part stands. Numbers of two bytes or more have the high byte first.
+-- State tables (document 01, Table; document 02, Asks 1, 5 and 6): where each part stands. Numbers of two bytes or more have the high byte first.
 use Prim.Native.Nat.{ℕ, _+_, _*_, _%_, _^_}
 use mathlib.Core.List.{List}
 use mathlib.Core.Bool.{Bool, true, false, cond, _&&_}
@@ -7,7 +7,7 @@ use Rattle.lists.specs.Lists.{part}
 use Rattle.lists.specs.Numbers.{byteAt, bigEndian}
 use Rattle.words.specs.Bits.{addBit}
 use Rattle.tables.specs.declared.Format.{Format}
-use Rattle.tables.specs.declared.Format.the-variants.{Version1, Version2, Version3}
+use Rattle.tables.specs.declared.Format.the-variants.{Version1, Version2, Version3, Version4}
 use Rattle.tables.specs.declared.Layout.{Layout}
 
 -- The limits: n is 1 to 64, m is 0 to 256.
@@ -26,20 +26,29 @@ startHeader = 9
 abbrev pub wordHeader : ℕ
 wordHeader = 16
 
--- What a format's layout is: the bytes of the header, whether the starts are a word, where m stands, the bytes of a mark and of a step, and whether the steps
--- rise. Version 1 has one start, and its steps may stand in any order; those of version 2 rise; version 3 has a start word besides.
+-- A layout is the bytes of the header, whether the starts are a word, where m stands, the bytes of a mark and of a step, and whether the steps rise.
+-- With one start, marks of 16 bits; the steps rise, or may stand in any order.
+abbrev pub oneStartLayout : Bool → Layout
+oneStartLayout rising = record { header = startHeader; word = false; count = 7; label = 2; step = 2; rising = rising }
+
+-- With a start word, marks of so many bytes; the steps rise.
+abbrev pub startWordLayout : ℕ → Layout
+startWordLayout label = record { header = wordHeader; word = true; count = 14; label = label; step = 2; rising = true }
+
+-- Version 2 has the layout of version 1, but its steps rise. Version 3 has a start word besides. Version 4 is version 3 with marks of four bytes.
 unfoldable pub layoutOf : Format → Layout
-layoutOf Version1 = record { header = startHeader; word = false; count = 7; label = 2; step = 2; rising = false }
-layoutOf Version2 = record { header = startHeader; word = false; count = 7; label = 2; step = 2; rising = true }
-layoutOf Version3 = record { header = wordHeader; word = true; count = 14; label = 2; step = 2; rising = true }
+layoutOf Version1 = oneStartLayout false
+layoutOf Version2 = oneStartLayout true
+layoutOf Version3 = startWordLayout 2
+layoutOf Version4 = startWordLayout 4
 
 -- The last version; the first is 1.
 abbrev pub lastVersion : ℕ
-lastVersion = 3
+lastVersion = 4
 
 -- The format of a version. A number that is no version, which 3 turns away, counts as the last.
 unfoldable pub formatOf : ℕ → Format
-formatOf version = cond (eqb version 1) Version1 (cond (eqb version 2) Version2 Version3)
+formatOf version = cond (eqb version 1) Version1 (cond (eqb version 2) Version2 (cond (eqb version 3) Version3 Version4))
 
 -- ---- the header
 

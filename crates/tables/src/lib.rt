@@ -6,7 +6,8 @@ use lists::read_be16;
 use words::Row;
 ghost use mathlib.Core.Path.{_≡_};
 ghost use Prim.Native.Nat.{_<_};
-ghost use Rattle.tables.specs.Table.{formatOf, layoutOf, versionOf, formatIn, statesOf, startOf, startsOf, initialOf, stepsOf};
+ghost use Rattle.tables.specs.Table.{oneStartLayout, startWordLayout, layoutOf, formatOf};
+ghost use Rattle.tables.specs.Table.{versionOf, formatIn, statesOf, startOf, startsOf, initialOf, stepsOf};
 ghost use Rattle.tables.specs.Table.{stepsAt, tableLength, labelsPart, stepsPart, labelOf, fromOf, toOf};
 
 // The format of a table, by its version.
@@ -14,6 +15,7 @@ pub enum Format {
     Version1,
     Version2,
     Version3,
+    Version4,
 }
 
 // Where the fields of a format stand and how wide they are. The first six bytes are the same in all, and the starts follow them.
@@ -47,11 +49,39 @@ impl Layout {
 
     // Where the starts stand.
     pub const STARTS: usize = 6;
+
+    // One start, labels of 16 bits, and steps that rise or stand in any order.
+    fn with_one_start(rising: bool) -> Self
+        ensures { λ r. ⌜ r ≡ oneStartLayout rising ⌝ }
+    {
+        Layout {
+            header: Layout::ONE_START,
+            word: false,
+            count: 7,
+            label: 2,
+            step: 2,
+            rising,
+        }
+    }
+
+    // A start word, labels of so many bytes, and steps that rise.
+    fn with_start_word(label: usize) -> Self
+        ensures { λ r. ⌜ r ≡ startWordLayout label ⌝ }
+    {
+        Layout {
+            header: Layout::START_WORD,
+            word: true,
+            count: 14,
+            label,
+            step: 2,
+            rising: true,
+        }
+    }
 }
 
 impl Format {
     // The last version that is read; the first is 1.
-    pub const LAST_VERSION: usize = 3;
+    pub const LAST_VERSION: usize = 4;
 
     // The format of a version; a number that is no version counts as the last.
     pub fn of(version: usize) -> Self
@@ -63,7 +93,10 @@ impl Format {
         if version == 2 {
             return Format::Version2;
         }
-        Format::Version3
+        if version == 3 {
+            return Format::Version3;
+        }
+        Format::Version4
     }
 
     // The layout of the format.
@@ -72,30 +105,10 @@ impl Format {
     {
         let format = self;
         match format {
-            Format::Version1 => Layout {
-                header: Layout::ONE_START,
-                word: false,
-                count: 7,
-                label: 2,
-                step: 2,
-                rising: false,
-            },
-            Format::Version2 => Layout {
-                header: Layout::ONE_START,
-                word: false,
-                count: 7,
-                label: 2,
-                step: 2,
-                rising: true,
-            },
-            Format::Version3 => Layout {
-                header: Layout::START_WORD,
-                word: true,
-                count: 14,
-                label: 2,
-                step: 2,
-                rising: true,
-            },
+            Format::Version1 => Layout::with_one_start(false),
+            Format::Version2 => Layout::with_one_start(true),
+            Format::Version3 => Layout::with_start_word(2),
+            Format::Version4 => Layout::with_start_word(4),
         }
     }
 }

@@ -5,7 +5,7 @@ use native.Mathlib.Omega.{arith}
 use lib.ListN.{length}
 use denote.Ref.{now}
 use borrow.Author.Tests.{lt-ltb, le-ltb, le-leb, lt-leb}
-use Rattle.tables.specs.Table.{versionOf}
+use Rattle.tables.specs.Table.{lastVersion, versionOf}
 use Rattle.table_reader.specs.TableReading.{readHeader, versionFits}
 use borrow.Author.Needs.{needs}
 use Rattle.table_reader.proofs.read_header.Statement.{statement}
@@ -45,7 +45,7 @@ returns-4 c =
       le-ltb (length s) 9 (omega arith),
       ap not (sym (c .before .before .before .before .magic-fits .ensures)) ∙ c .before .before .before .if2 .left,
       le-leb 1 (versionOf s) (omega (arith, c .before .before .version .ensures)),
-      lt-leb (versionOf s) 3 (omega (arith, c .before .before .version .ensures)),
+      lt-leb (versionOf s) lastVersion (omega (arith, c .before .before .version .ensures)),
     )
 
 read-sizes-requires : tie.Need-read-sizes-requires
@@ -59,7 +59,7 @@ returns-5 c =
       le-ltb (length s) 9 (omega arith),
       ap not (sym (c .before .before .before .before .before .magic-fits .ensures)) ∙ c .before .before .before .before .if2 .left,
       le-leb 1 (versionOf s) (omega (arith, c .before .before .before .version .ensures)),
-      le-leb (versionOf s) 3 (omega (arith, c .before .before .before .version .ensures)),
+      le-leb (versionOf s) lastVersion (omega (arith, c .before .before .before .version .ensures)),
     )
     (c .read-sizes .ensures)
 

@@ -17,8 +17,14 @@ returns-2 c =
 returns-3 : tie.Need-returns-3
 unfolding formatOf
 returns-3 c =
-    let v = c .before .before .args .version in
-    rw (ne-eqb v 1 (c .before .if1 .left), ne-eqb v 2 (c .if2 .left))
+    let v = c .before .before .before .args .version in
+    rw (ne-eqb v 1 (c .before .before .if1 .left), ne-eqb v 2 (c .before .if2 .left), eq-eqb v 3 (c .if3 .taken))
+
+returns-4 : tie.Need-returns-4
+unfolding formatOf
+returns-4 c =
+    let v = c .before .before .before .args .version in
+    rw (ne-eqb v 1 (c .before .before .if1 .left), ne-eqb v 2 (c .before .if2 .left), ne-eqb v 3 (c .if3 .left))
 
 pub of-spec : {M : Type 1} → statement M
-of-spec = tie.close (tie.spec returns returns-2 returns-3)
+of-spec = tie.close (tie.spec returns returns-2 returns-3 returns-4)
