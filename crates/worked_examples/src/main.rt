@@ -347,7 +347,7 @@ fn show_cases(text: &[u8]) {
 }
 
 fn main() {
-    let mut text = [0u8; 32768];
+    let mut text = [0u8; 65536];
     let n = io::read_full(0, &mut text);
     show_cases(part_of(&text, 0, n));
 }

@@ -1,10 +1,11 @@
 //! What every comparison must see of the answers: each number, on each table and in each
 //! version that has it, on each side, and in each mix of versions.
 
+use crate::marks_seen;
 use crate::names::{mix_name, mix_names, SIDES};
 use crate::report::Report;
 use crate::starts_seen;
-use crate::tables::{starts, states, version};
+use crate::tables::{layout, starts, states, step_count, version};
 use crate::Answer;
 use oracle::TableLayout;
 
@@ -28,8 +29,15 @@ impl<'a> Files<'a> {
     }
 }
 
-/// The names of a success, of the refusals of tables of these versions, of 16, and of
-/// further refusals.
+/// How far a table that is refused with 7 is from the length that it should have.
+const LENGTHS: [&str; 3] = [
+    "one byte short",
+    "one byte long",
+    "marks of the other width",
+];
+
+/// The names of a success, of the refusals of tables of these versions, of 16 and 17, and
+/// of further refusals.
 pub fn required(
     success: &str,
     versions: &[u16],
@@ -42,6 +50,8 @@ pub fn required(
             let codes = table_codes(version).into_iter();
             required
                 .extend(codes.map(|code| format!("{code:>2}, {side} table, version {version}")));
+            let length = |how| format!(" 7, {side} table, version {version}, {how}");
+            required.extend(LENGTHS.map(length));
         }
     }
     for code in further {
@@ -54,6 +64,7 @@ pub fn required(
     required.extend(mix_names(success, versions));
     required.extend(mix_names("16", versions));
     required.extend(starts_seen::required(success, versions));
+    required.extend(marks_seen::required(success, versions));
     required
 }
 
@@ -78,12 +89,14 @@ pub fn see(report: &mut Report, success: &str, answer: Answer, files: Files) {
             report.see(success);
             report.see(mix_name(success, files.left, files.right));
             starts_seen::see_success(report, success, files);
+            marks_seen::see_success(report, success, files);
         }
         1..=9 | 24 | 28 => see_table_refusal(report, code, file as usize, files),
         16 => {
             report.see(mix_name("16", files.left, files.right));
             starts_seen::see_refusal(report, answer, files);
         }
+        17 => marks_seen::see_refusal(report, answer, files),
         _ if by_side(code) => report.see(format!("{code:>2}, {} side", SIDES[side as usize])),
         _ => report.see(format!("{code:>2}")),
     }
@@ -104,6 +117,24 @@ fn see_table_refusal(report: &mut Report, code: u64, file: usize, files: Files) 
                 report.see(format!("{name}, {why}"));
             }
             report.see(format!("{name}, version {version}"));
+            if code == 7 {
+                for how in wrong_lengths(table) {
+                    report.see(format!("{name}, version {version}, {how}"));
+                }
+            }
         }
     }
+}
+
+/// Which of the `LENGTHS` this table has.
+fn wrong_lengths(table: &[u8]) -> Vec<&'static str> {
+    let (layout, n, m) = (layout(table), states(table), step_count(table));
+    let other = TableLayout {
+        mark_width: 6 - layout.mark_width,
+        ..layout
+    };
+    let (right, other) = (layout.length(n, m), other.length(n, m));
+    let lengths = [right - 1, right + 1, other].into_iter().zip(LENGTHS);
+    let lengths = lengths.filter(|&(length, _)| length == table.len());
+    lengths.map(|(_, how)| how).collect()
 }

@@ -7,6 +7,7 @@ mod answers_seen;
 mod follow;
 mod functions;
 mod listing;
+mod marks_seen;
 mod matching;
 mod names;
 mod path_property;
@@ -14,7 +15,7 @@ mod report;
 mod runs_seen;
 mod starts_seen;
 mod tables;
-mod worked_starts;
+mod worked;
 
 pub use accepted::Accepted;
 use answers_seen::Files;
@@ -30,9 +31,9 @@ use tables::{states, steps};
 
 type Answer = [u64; 6];
 
-/// The judge's numbers after those of the tables, but for 16, which is seen with the
-/// starts.
-const JUDGE_CODES: [u64; 9] = [10, 11, 12, 13, 14, 15, 17, 18, 19];
+/// The judge's numbers after those of the tables, but for 16 and 17, which are seen with the
+/// starts and the marks.
+const JUDGE_CODES: [u64; 8] = [10, 11, 12, 13, 14, 15, 18, 19];
 
 /// Compares a judge with the oracle's on `count` inputs.
 pub fn judge(
@@ -54,6 +55,7 @@ pub fn judge_in(
     required.extend(["2a", "2b", "2c"].map(String::from));
     required.extend(limit_names("accepted"));
     required.extend(starts_seen::required_of_large("accepted", versions));
+    required.extend(marks_seen::required_of_functions("accepted", versions));
     let mut report = Report::new(required);
 
     for case in JudgeCases::in_versions(versions, seed, count) {
@@ -104,7 +106,7 @@ pub fn make_in(
     seed: u64,
     mut under_test: impl FnMut(&[u8], &[u8], &[u8], &mut [u8]) -> Answer,
 ) -> Report {
-    let mut required = answers_seen::required("made", versions, [15, 17, 20, 21, 22, 23]);
+    let mut required = answers_seen::required("made", versions, [15, 20, 21, 22, 23]);
     required.extend(RUNS.map(|run| format!("made, {run} rank above 0")));
     required.extend(RUNS.map(|run| format!("made, {run} rank of 63")));
     required.extend(["made, output exact", "made, output longer"].map(String::from));
@@ -112,6 +114,7 @@ pub fn make_in(
     required.push(LARGEST.to_string());
     required.extend(limit_names("made"));
     required.extend(starts_seen::required_of_large("made", versions));
+    required.extend(marks_seen::required_of_functions("made", versions));
     let mut report = Report::new(required);
     let mut random = Random::new(!seed);
 

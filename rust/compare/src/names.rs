@@ -18,14 +18,16 @@ pub fn size_names(success: &str, table: &[u8]) -> [String; 2] {
 }
 
 /// Every mix of these versions on two tables.
+pub fn mixes(versions: &[u16]) -> impl Iterator<Item = (u16, u16)> + '_ {
+    let with_left = |&left| versions.iter().map(move |&right| (left, right));
+    versions.iter().flat_map(with_left)
+}
+
+/// The names of these mixes.
 pub fn mix_names(what: &str, versions: &[u16]) -> Vec<String> {
-    let mut names = Vec::new();
-    for left in versions {
-        for right in versions {
-            names.push(format!("{what}, versions {left} and {right}"));
-        }
-    }
-    names
+    mixes(versions)
+        .map(|(left, right)| format!("{what}, versions {left} and {right}"))
+        .collect()
 }
 
 /// The name of the versions of these two tables.

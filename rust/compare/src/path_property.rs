@@ -67,8 +67,8 @@ impl Implementation {
         for choice in 0..1 << 18 {
             let bits = |place: usize, count: usize| choice >> place & ((1 << count) - 1);
             let bit = |place| bits(place, 1);
-            let left = table(1 << bit(0), &[bit(1) as u16, bit(2) as u16], bits(3, 4));
-            let right = table(1 << bit(7), &[bit(8) as u16, bit(9) as u16], bits(10, 4));
+            let left = table(1 << bit(0), &[bit(1) as u32, bit(2) as u32], bits(3, 4));
+            let right = table(1 << bit(7), &[bit(8) as u32, bit(9) as u32], bits(10, 4));
             check.system(&left, &right, &relation(2, 2, bits(14, 4)));
         }
         check.seen
@@ -178,12 +178,12 @@ impl Check {
 }
 
 /// The table with these marks whose starts are the bits of `starts` and whose steps, which
-/// rise, are the bits of `steps`. Where there is one start, the versions take turns.
-fn table(starts: usize, marks: &[u16], steps: usize) -> Vec<u8> {
+/// rise, are the bits of `steps`. The versions that can have so many starts take turns.
+fn table(starts: usize, marks: &[u32], steps: usize) -> Vec<u8> {
     let n = marks.len();
     let version = match starts.count_ones() {
-        1 => 1 + (steps % 3) as u16,
-        _ => 3,
+        1 => 1 + (steps % 4) as u16,
+        _ => 3 + (steps % 2) as u16,
     };
     let steps = (0..n * n)
         .filter(|pair| steps >> pair & 1 == 1)

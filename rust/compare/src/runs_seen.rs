@@ -6,7 +6,7 @@ use crate::matching::{Block, Given};
 use crate::names::SIDES;
 use crate::report::Report;
 use crate::tables::{starts, steps};
-use crate::{starts_seen, Answer, JUDGE_CODES};
+use crate::{marks_seen, starts_seen, Answer, JUDGE_CODES};
 use inputs::{FollowCase, RUN_EDITS, VERSIONS};
 use oracle::Line;
 
@@ -88,6 +88,7 @@ pub fn required() -> Vec<String> {
     let codes = JUDGE_CODES.into_iter().chain(25..=27);
     let mut required = answers_seen::required("followed", VERSIONS, codes);
     required.extend(starts_seen::required_of_large("followed", VERSIONS));
+    required.extend(marks_seen::required_of_functions("followed", VERSIONS));
     required.push(A_THIRD.to_string());
     required.extend(RUN_EDITS.iter().map(|(label, _)| label.to_string()));
     required.extend(ORDERS.map(|[first, then]| format!("{first} before {then}")));

@@ -15,6 +15,12 @@ pub fn states(table: &[u8]) -> usize {
     table[5] as usize
 }
 
+/// The number of steps that stands in the header.
+pub fn step_count(table: &[u8]) -> usize {
+    let bytes = &table[layout(table).m()];
+    bytes[0] as usize * 256 + bytes[1] as usize
+}
+
 /// The starts, rising.
 pub fn starts(table: &[u8]) -> Vec<usize> {
     let layout = layout(table);
@@ -25,6 +31,18 @@ pub fn starts(table: &[u8]) -> Vec<usize> {
     } else {
         vec![bytes[0] as usize]
     }
+}
+
+/// The mark of each state.
+pub fn marks(table: &[u8]) -> Vec<u32> {
+    let layout = layout(table);
+    let bytes = &table[layout.mark(0)..layout.mark(states(table))];
+    let number = |bytes: &[u8]| {
+        bytes
+            .iter()
+            .fold(0, |high, &byte| high << 8 | u32::from(byte))
+    };
+    bytes.chunks_exact(layout.mark_width).map(number).collect()
 }
 
 /// The steps, each from and to.

@@ -1,6 +1,7 @@
 //! Families of systems. Many of them have the path property, and a good part of
 //! the rest fails to have it only just.
 
+use crate::marks::renumber_marks;
 use crate::random::Random;
 use crate::split::{relate_copies, split, SplitInto};
 use crate::starts::add_some_starts;
@@ -37,7 +38,7 @@ pub fn any_layered_system(random: &mut Random, versions: &[u16]) -> System {
 }
 
 /// The system or the one with left and right exchanged, each table in one of these
-/// versions, with several starts where the version has them.
+/// versions, with several starts and with large marks where the version has them.
 fn in_some_form(random: &mut Random, mut system: System, versions: &[u16]) -> System {
     if random.percent(50) {
         system = system.exchanged();
@@ -46,6 +47,7 @@ fn in_some_form(random: &mut Random, mut system: System, versions: &[u16]) -> Sy
         save_in(table, random.pick(versions));
     }
     add_some_starts(random, &mut system);
+    renumber_marks(random, &mut system);
     system
 }
 
@@ -169,7 +171,7 @@ pub fn cycles(random: &mut Random) -> System {
         Table {
             version: 1,
             starts: vec![0],
-            marks: (0..states).map(|s| (s % round) as u16 * 257).collect(),
+            marks: (0..states).map(|s| (s % round) as u32 * 257).collect(),
             steps: order,
         }
     };
@@ -204,7 +206,7 @@ pub fn long_system(random: &mut Random) -> System {
     let small = Table {
         version: 1,
         starts: vec![0],
-        marks: (0..states as u16).collect(),
+        marks: (0..states as u32).collect(),
         steps: steps.iter().map(|&(from, to)| Step { from, to }).collect(),
     };
     let long = SplitInto {

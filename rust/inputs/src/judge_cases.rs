@@ -6,7 +6,7 @@ use crate::families::any_system;
 use crate::random::Random;
 use crate::system::{System, VERSIONS};
 use crate::system_edits::SYSTEM_EDITS;
-use crate::table_edits::{TABLE_EDITS, TABLE_RESIZES};
+use crate::table_edits::{MARK_EDITS, TABLE_EDITS, TABLE_RESIZES};
 
 pub struct JudgeCase {
     pub left: Vec<u8>,
@@ -108,9 +108,10 @@ fn certified_system(random: &mut Random, versions: &[u16]) -> (System, Vec<u8>) 
 
 /// Changes the bytes of a well-formed table.
 pub fn edit_table(random: &mut Random, table: &mut Vec<u8>) -> &'static str {
-    let edits = match random.below(10) {
-        0 => TABLE_RESIZES,
-        1..=2 => BYTE_EDITS,
+    let edits = match random.below(20) {
+        0..=1 => TABLE_RESIZES,
+        2..=4 => MARK_EDITS,
+        5..=7 => BYTE_EDITS,
         _ => TABLE_EDITS,
     };
     let (first, second) = one_or_two(random, edits);

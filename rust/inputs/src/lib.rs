@@ -10,6 +10,7 @@ mod follow_cases;
 mod judge_cases;
 mod listing_cases;
 mod make_cases;
+mod marks;
 mod program_cases;
 mod random;
 mod run_edits;

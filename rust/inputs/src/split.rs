@@ -85,7 +85,7 @@ pub fn split(random: &mut Random, small: &Table, into: SplitInto) -> Copies {
         .iter()
         .map(|original| match original {
             Some(original) => small.marks[*original],
-            None => random.byte() as u16,
+            None => u32::from(random.byte()),
         })
         .collect();
     Copies {

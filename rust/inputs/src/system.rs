@@ -1,5 +1,6 @@
 //! Two tables and a relation, and how they are written as files.
 
+use crate::marks::greatest_mark;
 use crate::program_cases::joined;
 use crate::random::Random;
 use crate::starts::add_all_starts;
@@ -127,10 +128,10 @@ impl System {
 }
 
 /// The versions of a table.
-pub const VERSIONS: &[u16] = &[1, 2, 3];
+pub const VERSIONS: &[u16] = &[1, 2, 3, 4];
 
-/// Puts a table into a version. The steps are sorted where they must rise, and the first
-/// start alone is kept where there is no room for more.
+/// Puts a table into a version. The steps are sorted where they must rise; the first start
+/// alone and the low half of a mark are kept where there is no room for more.
 pub fn save_in(table: &mut Table, version: u16) {
     table.version = version;
     let layout = table.layout();
@@ -139,6 +140,10 @@ pub fn save_in(table: &mut Table, version: u16) {
     }
     if !layout.start_word {
         table.starts.truncate(1);
+    }
+    let greatest = greatest_mark(table);
+    for mark in &mut table.marks {
+        *mark &= greatest;
     }
 }
 
@@ -153,8 +158,9 @@ pub fn table_bytes(table: &Table) -> Vec<u8> {
         bytes.push(table.starts[0] as u8);
     }
     bytes.extend((table.steps.len() as u16).to_be_bytes());
+    let unused = 4 - table.layout().mark_width;
     for mark in &table.marks {
-        bytes.extend(mark.to_be_bytes());
+        bytes.extend(&mark.to_be_bytes()[unused..]);
     }
     for &Step { from, to } in &table.steps {
         bytes.extend([from as u8, to as u8]);

@@ -1,6 +1,7 @@
 //! Small changes to a system, after which it is still well formed but may no
 //! longer have the path property.
 
+use crate::marks::greatest_mark;
 use crate::random::Random;
 use crate::starts::{any_start, pairs_of_start, tidy};
 use crate::system::{save_in, System};
@@ -80,10 +81,16 @@ pub const SYSTEM_EDITS: &[SystemEdit] = &[
             table.starts.remove(random.below(table.starts.len()));
         }
     }),
-    ("a mark changed", |random, system| {
+    ("one bit of a mark turned", |random, system| {
         let table = one_side(random, system);
         let state = random.below(table.states());
-        table.marks[state] ^= 1 << random.below(16);
+        table.marks[state] ^= 1 << random.below(8 * table.layout().mark_width);
+    }),
+    ("a mark raised or lowered by one", |random, system| {
+        let table = one_side(random, system);
+        let state = random.below(table.states());
+        let by = random.pick(&[1, u32::MAX]);
+        table.marks[state] = table.marks[state].wrapping_add(by) & greatest_mark(table);
     }),
 ];
 

@@ -5,6 +5,7 @@
 
 use crate::byte_edits::ByteEdit;
 use crate::random::Random;
+use crate::system::VERSIONS;
 use oracle::TableLayout;
 
 pub const TABLE_EDITS: &[ByteEdit] = &[
@@ -15,14 +16,14 @@ pub const TABLE_EDITS: &[ByteEdit] = &[
         table[random.below(3)] ^= 1 << random.below(8);
     }),
     ("3: version", |random, table| {
-        let version = [[0, 0], [0, 4], [1, 0], [1, 1], [1, 2], [1, 3], [255, 255]];
-        table[3..5].copy_from_slice(&random.pick(&version));
+        let version = random.pick(&[0, 5, 256, 257, 258, 259, 260, 65_535]);
+        put_version(table, version);
     }),
     ("the number of another version alone", |random, table| {
-        table[4] = random.pick(&[1, 2, 3]);
+        put_version(table, random.pick(VERSIONS));
     }),
     ("1: a start word and under 16 bytes", |random, table| {
-        table[3..5].copy_from_slice(&[0, 3]);
+        put_version(table, random.pick(&[3, 4]));
         table.truncate(random.within(9, 15));
     }),
     ("4: n", |random, table| {
@@ -64,6 +65,11 @@ pub const TABLE_EDITS: &[ByteEdit] = &[
         2 => table.extend([0, 0]),
         _ => table.truncate(random.within(layout(table).header, table.len() - 1)),
     }),
+    ("7: marks of the other width", |_, table| {
+        let marks = marks(table);
+        let width = 6 - layout(table).mark_width;
+        replace_marks(table, &marks, width);
+    }),
     ("7: one step more than m", |_, table| {
         let m = steps(table) + 1;
         if m <= 256 {
@@ -99,7 +105,7 @@ pub const TABLE_EDITS: &[ByteEdit] = &[
     (
         "24: the steps of version 1 in a later version",
         |random, table| {
-            set_version(table, random.pick(&[2, 3]));
+            set_version(table, random.pick(&[2, 3, 4]));
         },
     ),
 ];
@@ -107,11 +113,11 @@ pub const TABLE_EDITS: &[ByteEdit] = &[
 /// Changes after which the table is still well formed.
 pub const TABLE_RESIZES: &[ByteEdit] = &[
     ("n raised to 63 or 64", |random, table| {
-        let n = random.pick(&[63, 64]);
-        let marks_end = layout(table).mark(states(table));
-        let further = 2 * (n - states(table).min(n));
-        table.splice(marks_end..marks_end, vec![0; further]);
-        table[5] = table[5].max(n as u8);
+        let n = random.pick(&[63, 64]).max(states(table));
+        let mut marks = marks(table);
+        marks.resize(n, 0);
+        replace_marks(table, &marks, layout(table).mark_width);
+        table[5] = n as u8;
     }),
     ("m raised to 255 or 256", |random, table| {
         let (n, wanted) = (states(table), random.pick(&[255, 256]));
@@ -131,7 +137,7 @@ pub const TABLE_RESIZES: &[ByteEdit] = &[
         }
     }),
     ("the same table in another version", |random, table| {
-        set_version(table, random.pick(&[1, 2, 3]));
+        set_version(table, random.pick(VERSIONS));
         if layout(table).rising {
             sort_steps(table);
         }
@@ -155,6 +161,35 @@ pub const TABLE_RESIZES: &[ByteEdit] = &[
     ("all starts", |_, table| {
         let n = states(table);
         change_starts(table, |_| u64::MAX >> (64 - n));
+    }),
+];
+
+/// Changes of a mark, after which the table is still well formed. In 16 bits a mark keeps
+/// its low half, so some of them change nothing there.
+pub const MARK_EDITS: &[ByteEdit] = &[
+    ("one bit of a mark turned", |random, table| {
+        let bit = random.below(32);
+        change_mark(random, table, |mark| mark ^ 1 << bit);
+    }),
+    (
+        "one bit of the high half of a mark turned",
+        |random, table| {
+            let bit = random.within(16, 31);
+            change_mark(random, table, |mark| mark ^ 1 << bit);
+        },
+    ),
+    ("a mark raised or lowered by one", |random, table| {
+        let by = random.pick(&[1, u32::MAX]);
+        change_mark(random, table, |mark| mark.wrapping_add(by));
+    }),
+    ("65,535 and 65,536 exchanged", |_, table| {
+        let exchanged = |mark| match mark {
+            65_535 => 65_536,
+            65_536 => 65_535,
+            mark => mark,
+        };
+        let marks: Vec<u32> = marks(table).into_iter().map(exchanged).collect();
+        replace_marks(table, &marks, layout(table).mark_width);
     }),
 ];
 
@@ -212,6 +247,33 @@ fn start_word(table: &[u8]) -> u64 {
     bytes.fold(0, |high, &byte| high << 8 | u64::from(byte))
 }
 
+fn marks(table: &[u8]) -> Vec<u32> {
+    let number = |bytes: &[u8]| {
+        let bytes = bytes.iter();
+        bytes.fold(0, |high, &byte| high << 8 | u32::from(byte))
+    };
+    let (first, end) = (layout(table).mark(0), first_step(table));
+    let marks = table[first..end].chunks(layout(table).mark_width);
+    marks.map(number).collect()
+}
+
+/// Changes the mark of some state.
+fn change_mark(random: &mut Random, table: &mut Vec<u8>, change: impl Fn(u32) -> u32) {
+    let mut marks = marks(table);
+    let state = random.below(marks.len());
+    marks[state] = change(marks[state]);
+    replace_marks(table, &marks, layout(table).mark_width);
+}
+
+/// Puts these marks, of which each gets so many bytes, in place of those that stand there.
+fn replace_marks(table: &mut Vec<u8>, marks: &[u32], width: usize) {
+    let place = layout(table).mark(0)..first_step(table);
+    let bytes = marks
+        .iter()
+        .flat_map(|mark| mark.to_be_bytes().into_iter().skip(4 - width));
+    table.splice(place, bytes);
+}
+
 /// Sets a bit that stands for no state in the start word, where the table has one.
 fn add_start_too_high(random: &mut Random, table: &mut [u8]) {
     let n = states(table);
@@ -222,13 +284,20 @@ fn add_start_too_high(random: &mut Random, table: &mut [u8]) {
     }
 }
 
+/// Writes another version and nothing else.
+fn put_version(table: &mut [u8], version: u16) {
+    table[3..5].copy_from_slice(&version.to_be_bytes());
+}
+
 /// Puts a table into another version and leaves its steps as they are. Of several starts
-/// the first is kept where there is no room for more.
+/// the first is kept where there is no room for more, and of a mark the low half.
 fn set_version(table: &mut Vec<u8>, version: u16) {
     let before = layout(table);
-    let starts = start_word(table);
-    table[3..5].copy_from_slice(&version.to_be_bytes());
-    match (before.start_word, layout(table).start_word) {
+    let after = TableLayout::of(version).expect("the version is known");
+    let (starts, marks) = (start_word(table), marks(table));
+    replace_marks(table, &marks, after.mark_width);
+    put_version(table, version);
+    match (before.start_word, after.start_word) {
         (true, false) => {
             table.splice(before.starts(), [starts.trailing_zeros() as u8]);
         }
@@ -269,7 +338,6 @@ fn repeat_step(random: &mut Random, table: &mut [u8]) {
 mod tests {
     use super::*;
     use crate::families::any_system;
-    use crate::system::VERSIONS;
     use std::collections::BTreeSet;
 
     /// The number with which the left table is refused, or 0.
@@ -305,6 +373,7 @@ mod tests {
             (1, [1, 2, 3, 4, 5, 6, 7, 8, 9]),
             (2, [1, 2, 3, 4, 5, 6, 7, 8, 24]),
             (3, [1, 2, 3, 4, 28, 6, 7, 8, 24]),
+            (4, [1, 2, 3, 4, 28, 6, 7, 8, 24]),
         ] {
             let missing = codes
                 .into_iter()
@@ -320,7 +389,8 @@ mod tests {
         for _ in 0..1_000 {
             let mut table = any_system(&mut random, VERSIONS).left_bytes();
             for _ in 0..2 {
-                let (label, edit) = random.pick(TABLE_RESIZES);
+                let edits = random.pick(&[TABLE_RESIZES, MARK_EDITS]);
+                let (label, edit) = random.pick(edits);
                 edit(&mut random, &mut table);
                 assert_eq!(refusal(&table), 0, "{label}");
             }

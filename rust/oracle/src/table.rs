@@ -16,7 +16,8 @@ pub struct Table {
     pub version: u16,
     /// The starts, rising. "A table of an older version has one start."
     pub starts: Vec<usize>,
-    pub marks: Vec<u16>,
+    /// "A mark from an older file is the same number in 32 bits".
+    pub marks: Vec<u32>,
     pub steps: Vec<Step>,
 }
 
@@ -28,6 +29,8 @@ pub struct TableLayout {
     pub header: usize,
     /// The starts are a 64-bit word, which stands "in place of byte 6".
     pub start_word: bool,
+    /// How many bytes a mark has.
+    pub mark_width: usize,
     /// The steps "rise by from, then by to".
     pub rising: bool,
 }
@@ -41,12 +44,14 @@ impl TableLayout {
             1 => Some(TableLayout {
                 header: 9,
                 start_word: false,
+                mark_width: 2,
                 rising: false,
             }),
             // "Table version 2 has the layout of version 1, but its steps rise"
             2 => Some(TableLayout {
                 header: 9,
                 start_word: false,
+                mark_width: 2,
                 rising: true,
             }),
             // "Table version 3 [...] has, in place of byte 6, a 64-bit word of starts, so its
@@ -54,6 +59,14 @@ impl TableLayout {
             3 => Some(TableLayout {
                 header: 16,
                 start_word: true,
+                mark_width: 2,
+                rising: true,
+            }),
+            // "Table version 4, passed by 3 too, is version 3 with marks of four bytes"
+            4 => Some(TableLayout {
+                header: 16,
+                start_word: true,
+                mark_width: 4,
                 rising: true,
             }),
             _ => None,
@@ -77,7 +90,7 @@ impl TableLayout {
 
     /// The place of the first byte of the mark of state s.
     pub fn mark(&self, s: usize) -> usize {
-        self.header + 2 * s
+        self.header + self.mark_width * s
     }
 
     /// The place of the first byte of step j, where there are n states.
@@ -85,7 +98,8 @@ impl TableLayout {
         self.mark(n) + 2 * j
     }
 
-    /// "Length exactly 9 + 2n + 2m"; of version 3 "its length 16 + 2n + 2m".
+    /// "Length exactly 9 + 2n + 2m"; of version 3 "its length 16 + 2n + 2m", and of version 4
+    /// "its length is 16 + 4n + 2m".
     pub fn length(&self, n: usize, m: usize) -> usize {
         self.step(n, m)
     }
@@ -143,7 +157,8 @@ pub fn read_table(bytes: &[u8], file: u64) -> Result<Table, Answer> {
     if bytes[0..3] != *b"TPT" {
         return refuse(2, 0);
     }
-    // "3 is now for versions other than 1 and 2"; "Table version 3, now passed by 3"
+    // "3 is now for versions other than 1 and 2"; "Table version 3, now passed by 3";
+    // "Table version 4, passed by 3 too"
     let version = number(&bytes[3..5]) as u16;
     let Some(layout) = TableLayout::of(version) else {
         return refuse(3, 0);
@@ -182,9 +197,9 @@ pub fn read_table(bytes: &[u8], file: u64) -> Result<Table, Answer> {
         return refuse(7, 0);
     }
 
-    // "Then n marks of 16 bits."
-    let marks: Vec<u16> = (0..n)
-        .map(|s| number(&bytes[layout.mark(s)..layout.mark(s + 1)]) as u16)
+    // "Then n marks of 16 bits"; in version 4 "marks of four bytes"
+    let marks: Vec<u32> = (0..n)
+        .map(|s| number(&bytes[layout.mark(s)..layout.mark(s + 1)]) as u32)
         .collect();
 
     // "Then m steps, two bytes each, from and to"
@@ -201,7 +216,7 @@ pub fn read_table(bytes: &[u8], file: u64) -> Result<Table, Answer> {
     }
     if layout.rising {
         // "24 when a step of a version 2 table is not greater than the one before it";
-        // in version 3 "steps rise as in version 2, under 24"
+        // in version 3 "steps rise as in version 2, under 24", and version 4 "is version 3"
         if let Some(j) = (1..m).find(|&j| !(steps[j] > steps[j - 1])) {
             return refuse(24, j);
         }

@@ -12,7 +12,8 @@ pub(crate) struct Table<'a> {
     pub starts: u64,
     /// The starts stand in the file as a word.
     pub start_word: bool,
-    pub marks: &'a [u8],
+    /// The mark of each state, as a number.
+    pub marks: [u32; 64],
     pub steps: &'a [u8],
     pub successors: [u64; 64],
     pub first: [usize; 65],
@@ -79,7 +80,7 @@ pub(crate) fn accept(
     let mut met = [0; 3];
     for s in 0..n1 {
         for t in bits(rows[s]) {
-            if left.marks[2 * s..2 * s + 2] != right.marks[2 * t..2 * t + 2] {
+            if left.marks[s] != right.marks[t] {
                 return Err([17, 2, s as u64, t as u64, 0, 0]);
             }
             let refusal = |side, (code, step)| [code, 2, side, s as u64, t as u64, step];
@@ -153,11 +154,12 @@ pub(crate) fn read_table(bytes: &[u8], file: u64) -> Result<Table<'_>, Answer> {
         return refuse(2, 0);
     }
     let version = u16::from_be_bytes([bytes[3], bytes[4]]);
-    if !(1..=3).contains(&version) {
+    if !(1..=4).contains(&version) {
         return refuse(3, 0);
     }
-    let start_word = version == 3;
+    let start_word = version >= 3;
     let header = if start_word { 16 } else { 9 };
+    let mark_width = if version == 4 { 4 } else { 2 };
     if bytes.len() < header {
         return refuse(1, 0);
     }
@@ -181,12 +183,23 @@ pub(crate) fn read_table(bytes: &[u8], file: u64) -> Result<Table<'_>, Answer> {
     if m > 256 {
         return refuse(6, 0);
     }
-    if bytes.len() != header + 2 * states + 2 * m {
+    if bytes.len() != header + mark_width * states + 2 * m {
         return refuse(7, 0);
     }
-    let (marks, steps) = bytes[header..].split_at(2 * states);
+    let (mark_bytes, steps) = bytes[header..].split_at(mark_width * states);
     if let Some(end) = steps.iter().position(|&end| end as usize >= states) {
         return refuse(8, end / 2);
+    }
+
+    let mut marks = [0; 64];
+    if mark_width == 4 {
+        for (mark, bytes) in marks.iter_mut().zip(mark_bytes.chunks_exact(4)) {
+            *mark = u32::from_be_bytes(bytes.try_into().unwrap());
+        }
+    } else {
+        for (mark, bytes) in marks.iter_mut().zip(mark_bytes.chunks_exact(2)) {
+            *mark = u32::from(u16::from_be_bytes(bytes.try_into().unwrap()));
+        }
     }
 
     let mut successors = [0u64; 64];

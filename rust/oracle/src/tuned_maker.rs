@@ -52,7 +52,7 @@ fn make_or_refuse(
     ];
     for s in 0..n1 {
         for t in bits(rows[s]) {
-            if left.marks[2 * s..2 * s + 2] != right.marks[2 * t..2 * t + 2] {
+            if left.marks[s] != right.marks[t] {
                 return Err([17, 2, s as u64, t as u64, 0, 0]);
             }
             for (number, own, other) in [(0, s, t), (1, t, s)] {

@@ -7,10 +7,10 @@ fn the_judge_equals_the_oracle() {
     compare::judge(300_000, 21, stutter::judge).require_all();
 }
 
-/// As many files without a start word alone: they keep their answers.
+/// As many files with marks of 16 bits alone: they keep their answers.
 #[test]
 fn the_judge_equals_the_oracle_on_older_versions() {
-    compare::judge_in(&[1, 2], 300_000, 20, stutter::judge).require_all();
+    compare::judge_in(&[1, 2, 3], 300_000, 20, stutter::judge).require_all();
 }
 
 /// Fewer than six places are left as they were.

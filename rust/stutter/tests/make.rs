@@ -20,10 +20,10 @@ fn the_maker_equals_the_oracle() {
     compare::make(100_000, 25, make_and_judge).require_all();
 }
 
-/// As many files without a start word alone: they keep their answers.
+/// As many files with marks of 16 bits alone: they keep their answers.
 #[test]
 fn the_maker_equals_the_oracle_on_older_versions() {
-    compare::make_in(&[1, 2], 100_000, 24, make_and_judge).require_all();
+    compare::make_in(&[1, 2, 3], 100_000, 24, make_and_judge).require_all();
 }
 
 /// 64 states and 256 steps a side, in every mix of versions, with as many starts as a

@@ -114,13 +114,17 @@ fn example() -> Vec<u8> {
     std::fs::read(repository().join("crates/judge/stdin")).expect("the example's input is there")
 }
 
-/// P, Q and K, where Q has a start word with the starts 0 and 1.
-fn example_with_start_word() -> Vec<u8> {
+/// P, Q and K, where Q has a start word with the starts 0 and 1, and marks of two and of
+/// four bytes.
+fn later_examples() -> [Vec<u8>; 2] {
     let input = example();
     let [p, q, k] = oracle::pieces(&input);
-    let starts = [0, 0, 0, 0, 0, 0, 0, 0b11];
-    let q = [b"TPT\0\x03\x03", &starts[..], &q[7..]].concat();
-    joined(&[p.to_vec(), q, k.to_vec()])
+    let starts_and_m = [0, 0, 0, 0, 0, 0, 0, 0b11, 0, 3];
+    let (marks, wide_marks) = (&q[9..15], [0, 0, 0, 0, 0, 0, 0, 0, 0, 0, 0, 1]);
+    [(b"TPT\0\x03\x03", marks), (b"TPT\0\x04\x03", &wide_marks)].map(|(header, marks)| {
+        let q = [&header[..], &starts_and_m, marks, &q[15..]].concat();
+        joined(&[p.to_vec(), q, k.to_vec()])
+    })
 }
 
 /// 64 states, 64 starts and 256 steps a side, every pair related: the longest tables and
@@ -128,7 +132,7 @@ fn example_with_start_word() -> Vec<u8> {
 fn largest_accepted() -> Vec<u8> {
     let systems = inputs::all_related().in_all_versions();
     let input = systems[systems.len() - 1].input();
-    assert_eq!(input.len(), 3 * 2 + 2 * (16 + 2 * 64 + 2 * 256) + 41_483);
+    assert_eq!(input.len(), 3 * 2 + 2 * (16 + 4 * 64 + 2 * 256) + 41_483);
     let starts = &input[2 + 6..2 + 14];
     assert_eq!(starts, [0xff; 8]);
     input
@@ -142,7 +146,7 @@ fn thrice(piece: &[u8]) -> Vec<u8> {
 #[test]
 fn the_examples_are_the_documents() {
     for program in &PROGRAMS {
-        for input in [example(), example_with_start_word()] {
+        for input in later_examples().into_iter().chain([example()]) {
             assert_eq!((program.oracle)(&input), program.example);
             assert_eq!(program.run(&input), program.example);
         }

@@ -1,18 +1,10 @@
-//! Tables with a start word, through the C interface: worked out by hand, and the older
+//! Tables with a start word, through the C interface: an example byte by byte, and the older
 //! tables beside those that say the same with a word.
 
-use compare::Functions;
-use inputs::{any_system, save_in, Random, System};
+mod shared;
 
-#[test]
-fn the_worked_cases_are_answered() {
-    let functions = Functions {
-        judge: stutter::judge,
-        make: stutter::make,
-        follow: stutter::follow,
-    };
-    functions.require_worked_starts();
-}
+use inputs::{any_system, save_in, Random};
+use shared::answers;
 
 /// "The new analyser can wake idle or wake paused." Byte by byte: the old one has the states
 /// idle and reading and one start, the new one idle, paused and reading and two.
@@ -73,17 +65,6 @@ fn the_new_analyser_wakes_idle_or_paused() {
         assert_eq!(made(starts), (refused, [0xEE; 53]));
         assert_eq!(stutter::judge(&old, &new(starts), &certificate), refused);
     }
-}
-
-/// What the maker answers and writes, and what the judge answers to a certificate of
-/// these ranks.
-fn answers(system: &System, ranks: &[u8]) -> ([u64; 6], Vec<u8>, [u64; 6]) {
-    let (left, right) = (system.left_bytes(), system.right_bytes());
-    let mut output = vec![0; system.layout().length()];
-    let made = stutter::make(&left, &right, &system.relation_bytes(), &mut output);
-    let header = system.layout().header();
-    let judged = stutter::judge(&left, &right, &[&header, ranks].concat());
-    (made, output, judged)
 }
 
 /// A table of version 2 and the same in version 3 get the same answers, but for the numbers

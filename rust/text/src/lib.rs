@@ -19,8 +19,8 @@ pub struct Example {
 #[derive(Default)]
 struct Named {
     states: Vec<String>,
-    labels: Vec<(String, u16)>,
-    marks: Vec<u16>,
+    labels: Vec<(String, u32)>,
+    marks: Vec<u32>,
     starts: Vec<usize>,
     steps: Vec<Step>,
 }
@@ -127,7 +127,8 @@ fn read_table(path: &Path) -> Result<Named, String> {
 }
 
 impl Named {
-    /// The table as it is written: in version 1, or with several starts in version 3.
+    /// The table as it is written: in version 1, with several starts in version 3, and with
+    /// a mark above 65,535 in version 4.
     fn table(self, path: &Path) -> Result<Table, String> {
         let fail = |what| Err(format!("{}: {what}", path.display()));
         if self.states.len() > 64 || self.steps.len() > 256 {
@@ -136,7 +137,11 @@ impl Named {
         if self.starts.is_empty() {
             return fail("a table has no line 'start'");
         }
-        let version = if self.starts.len() == 1 { 1 } else { 3 };
+        let version = match (self.starts.len(), self.marks.iter().max()) {
+            (_, Some(65_536..)) => 4,
+            (1, _) => 1,
+            _ => 3,
+        };
         let mut starts = self.starts;
         starts.sort();
         let mut table = Table {
@@ -252,6 +257,34 @@ mod tests {
         assert_eq!(system.right_bytes(), table);
     }
 
+    /// With a mark above 65,535 the table is of version 4, and one that is not used does
+    /// not count.
+    #[test]
+    fn large_marks_make_four_bytes() {
+        let lines = |state| format!("{TABLE}label 65536 wide\nlabel 4294967295 widest\n{state}\n");
+        let table = |state| {
+            let example = read_lines(&lines(state), "related equal labels\nmake 0 0 0 0 0 0\n");
+            example.expect("the files can be read").system.left_bytes()
+        };
+        let (starts, steps) = ([0, 0, 0, 0, 0, 0, 0, 2], [0, 1, 0, 2, 2, 0]);
+        let marks = [0, 0, 0, 7, 0, 0, 1, 2, 0, 0, 0, 7];
+        for (state, mark) in [
+            ("state d wide", [0, 1, 0, 0]),
+            ("state d widest", [255, 255, 255, 255]),
+        ] {
+            let parts = [
+                b"TPT\0\x04\x04",
+                &starts[..],
+                b"\0\x03",
+                &marks,
+                &mark,
+                &steps,
+            ];
+            assert_eq!(table(state), parts.concat());
+        }
+        assert_eq!(table("")[..5], *b"TPT\0\x01");
+    }
+
     #[test]
     fn equal_labels_are_related() {
         let example = read_lines(TABLE, "related equal labels\nmake 0 0 0 0 0 0\n");
@@ -281,6 +314,7 @@ mod tests {
             ),
             (table("step a b"), "is no line of a table"),
             (table("label x y"), "has a word where a number should be"),
+            (table("label 4294967296 y"), "where a number should be"),
             (
                 relation("related d ~ a"),
                 "relation:3: 'related d ~ a' names a state",

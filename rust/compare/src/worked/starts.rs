@@ -1,23 +1,6 @@
-//! Tables with a start word, written out byte by byte, and the answers to them, worked out
-//! by hand from the documents.
+//! Tables with a start word.
 
-use crate::{hex, Answer};
-
-/// Two tables, a certificate, and what the judge answers.
-pub struct Case {
-    pub name: String,
-    pub left: Vec<u8>,
-    pub right: Vec<u8>,
-    pub certificate: Vec<u8>,
-    pub answer: Answer,
-}
-
-/// P, Q and K of the scope document, in version 1.
-const P: &[u8] = b"TPT\0\x01\x02\0\0\x02\0\0\0\x01\0\x01\x01\0";
-const Q: &[u8] = b"TPT\0\x01\x03\0\0\x03\0\0\0\0\0\x01\0\x01\x01\x02\x02\0";
-const K: &[u8] = b"TPC\0\x01\x02\x03\0\x02\0\x03\
-    \0\0\0\0\0\0\0\x03\0\0\0\0\0\0\0\x04\
-    \0\0\0\0\0\0\x01\0\0\0\0\0\x01\0\0\0\0\0\0\0\0\0\0\0";
+use super::{Case, Refused, K, P, Q};
 
 /// P with these starts: 2 states, 2 steps, marks 0 1, steps 0-1, 1-0.
 fn p(starts: u8) -> Vec<u8> {
@@ -285,11 +268,8 @@ fn starts_alone() -> Vec<Case> {
     .into()
 }
 
-/// A table that is refused, with its number and a.
-type Refused = (&'static str, Vec<u8>, [u64; 2]);
-
 /// In the order of the causes: 1 (under 9 bytes), 2, 3, 1 (under 16 bytes), 4, 28, 6, 7, 8, 24.
-fn refused_tables() -> Vec<Refused> {
+pub fn refused_tables() -> Vec<Refused> {
     let good = q(0b011);
     let with = |place: usize, bytes: &[u8]| {
         let mut table = q(0b011);
@@ -303,7 +283,7 @@ fn refused_tables() -> Vec<Refused> {
         ("8 bytes", cut(8, good.clone()), [1, 0]),
         ("8 bytes of no table", cut(8, with(0, b"X")), [1, 0]),
         ("9 bytes of no table", cut(9, with(0, b"X")), [2, 0]),
-        ("9 bytes of version 4", cut(9, with(3, &[0, 4])), [3, 0]),
+        ("9 bytes of version 5", cut(9, with(3, &[0, 5])), [3, 0]),
         ("version 259", with(3, &[1, 3]), [3, 0]),
         ("9 bytes", cut(9, good.clone()), [1, 0]),
         ("15 bytes", cut(15, good.clone()), [1, 0]),
@@ -344,47 +324,13 @@ fn refused_tables() -> Vec<Refused> {
     ]
 }
 
-/// All cases. Each certificate that is accepted is the one that the maker writes.
+/// Pairs of tables that are read.
 pub fn cases() -> Vec<Case> {
-    let mut cases = pairs_of_p_and_q();
-    cases.extend(starts_alone());
-    for (name, table, [code, a]) in refused_tables() {
-        let file = |file: u64, left: &[u8], right: &[u8]| Case {
-            name: format!("{name}, file {file}"),
-            left: left.to_vec(),
-            right: right.to_vec(),
-            certificate: K.to_vec(),
-            answer: [code, file, a, 0, 0, 0],
-        };
-        cases.push(file(0, &table, Q));
-        cases.push(file(1, P, &table));
-        // "two bad tables: the left is reported"
-        cases.push(file(0, &table, &table));
-    }
-    cases
+    [pairs_of_p_and_q(), starts_alone()].concat()
 }
 
 /// P and Q with several starts, as the files of a run.
 pub fn files_of_run() -> [[Vec<u8>; 3]; 2] {
     let k = || K.to_vec();
     [[P.to_vec(), q(0b011), k()], [p(0b11), q(0b111), k()]]
-}
-
-/// A run of P from its state 0 that is followed on Q from its state 0: "the state and its
-/// 16-bit block number", and the block number of each state given.
-pub const PATH: [u8; 4] = [0, 1, 0, 1];
-pub const STATES: [u8; 18] = [0, 0, 0, 1, 0, 0, 2, 0, 1, 0, 0, 2, 1, 0, 2, 2, 0, 3];
-pub const BLOCKS: [u8; 8] = [0, 0, 0, 1, 0, 2, 0, 3];
-
-impl Case {
-    /// All of a case, for a message.
-    pub fn told(&self) -> String {
-        format!(
-            "{}\nleft        {}\nright       {}\ncertificate {}\n",
-            self.name,
-            hex(&self.left),
-            hex(&self.right),
-            hex(&self.certificate),
-        )
-    }
 }

@@ -11,7 +11,7 @@ fn the_plain_functions_are_right() {
             make,
             follow: oracle::follow,
         };
-        functions.require_worked_starts();
+        functions.require_worked();
     }
 }
 
@@ -22,5 +22,5 @@ fn the_tuned_functions_are_right() {
         make: tuned_maker::make,
         follow: tuned_follow::follow,
     };
-    functions.require_worked_starts();
+    functions.require_worked();
 }

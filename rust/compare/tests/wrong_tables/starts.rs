@@ -1,20 +1,7 @@
-//! Judges and makers that are wrong in one thing each about start words and the starts
-//! rule: the comparisons find every one of them.
+//! Wrong about start words and the starts rule.
 
+use crate::asked::{require_found, version, Asked, Wrong};
 use oracle::{Answer, TableLayout};
-use std::panic::{catch_unwind, AssertUnwindSafe};
-
-/// What a wrong function is given: two tables, the rows of the relation, the right answer,
-/// and the right answers to other tables.
-struct Asked<'a> {
-    tables: [&'a [u8]; 2],
-    rows: &'a [u8],
-    answer: Answer,
-    others: &'a mut dyn FnMut(&[u8], &[u8]) -> Answer,
-}
-
-/// A wrong function, by what is wrong with it.
-type Wrong = (&'static str, fn(&mut Asked) -> Answer);
 
 /// Wrong about the starts rule and about what 16 names.
 const STARTS_RULE: [Wrong; 11] = [
@@ -116,8 +103,9 @@ const WORDS: [Wrong; 18] = [
     }),
     ("bit n - 1 is refused", |asked| {
         asked.refuse_table(|table| {
+            let starts = word(table)?;
             let last = table[5].checked_sub(1)?;
-            (word(table)? >> last.min(63) & 1 == 1).then_some(28)
+            (starts >> last.min(63) & 1 == 1).then_some(28)
         })
     }),
     ("64 states have no word", |asked| {
@@ -159,22 +147,14 @@ fn below(n: usize) -> u64 {
     1u64.checked_shl(n as u32).unwrap_or(0).wrapping_sub(1)
 }
 
-/// The version, where there are so many bytes, or 0.
-fn version(table: &[u8]) -> usize {
-    match table {
-        [b'T', b'P', b'T', high, low, ..] => *high as usize * 256 + *low as usize,
-        _ => 0,
-    }
-}
-
 /// The start word, where the table has one.
 fn word(table: &[u8]) -> Option<u64> {
-    let bytes = table.get(6..14).filter(|_| version(table) == 3)?;
+    let bytes = table.get(6..14).filter(|_| has_word(table))?;
     Some(u64::from_be_bytes(bytes.try_into().expect("eight bytes")))
 }
 
 fn has_word(table: &[u8]) -> bool {
-    TableLayout::of_file(table).is_some_and(|layout| layout.start_word)
+    table.starts_with(b"TPT") && TableLayout::of_file(table).is_some_and(|layout| layout.start_word)
 }
 
 /// The table with another start word.
@@ -230,7 +210,7 @@ impl Asked<'_> {
         if self.answer[0] != 16 || !self.has_word() {
             return self.answer;
         }
-        let [left, right] = [0, 1].map(|side| {
+        self.answer_to([0, 1].map(|side| {
             let starts = self.starts(side).into_iter();
             let kept = starts.filter(|&start| !taken(self, side, start));
             let kept: u64 = kept.map(|start| 1 << start).sum();
@@ -238,98 +218,24 @@ impl Asked<'_> {
                 Some(_) if kept != 0 => with_word(self.tables[side], kept),
                 _ => self.tables[side].to_vec(),
             }
-        });
-        (self.others)(&left, &right)
+        }))
     }
 
     /// The answer to the tables with other start words, from n and the word.
     fn with_words(&mut self, change: impl Fn(usize, u64) -> u64) -> Answer {
-        let [left, right] = self.tables.map(|table| match word(table) {
+        self.with_tables(|table| match word(table) {
             Some(word) => with_word(table, change(table[5] as usize, word)),
             None => table.to_vec(),
-        });
-        (self.others)(&left, &right)
+        })
     }
-
-    /// Where a table is refused with this number, another number in its place.
-    fn renamed(&self, code: u64, other: impl Fn(&[u8]) -> Option<u64>) -> Answer {
-        let mut answer = self.answer;
-        if answer[0] == code {
-            let table = self.tables[answer[1] as usize];
-            answer[0] = other(table).unwrap_or(code);
-        }
-        answer
-    }
-
-    /// Where the left table is refused otherwise or not at all, this number comes first.
-    fn refuse_table(&self, refused: impl Fn(&[u8]) -> Option<u64>) -> Answer {
-        match refused(self.tables[0]) {
-            Some(code) => [code, 0, 0, 0, 0, 0],
-            None => self.answer,
-        }
-    }
-}
-
-/// Whether a comparison panics with such a message.
-fn found(message: &str, compared: impl FnOnce()) -> bool {
-    match catch_unwind(AssertUnwindSafe(compared)) {
-        Ok(()) => false,
-        Err(told) => {
-            let told = told.downcast_ref::<String>();
-            let told = told.expect("it is told what differs");
-            assert!(told.starts_with(message), "{told}");
-            true
-        }
-    }
-}
-
-fn judge_differs(wrong: fn(&mut Asked) -> Answer) -> bool {
-    found("the judge differs", || {
-        compare::judge(20_000, 71, |left, right, certificate| {
-            wrong(&mut Asked {
-                tables: [left, right],
-                rows: certificate.get(11..).unwrap_or(&[]),
-                answer: oracle::tuned::judge(left, right, certificate),
-                others: &mut |left, right| oracle::tuned::judge(left, right, certificate),
-            })
-        });
-    })
-}
-
-fn maker_differs(wrong: fn(&mut Asked) -> Answer) -> bool {
-    found("the maker differs", || {
-        compare::make(20_000, 72, |left, right, relation, output| {
-            let answer = oracle::tuned_maker::make(left, right, relation, output);
-            wrong(&mut Asked {
-                tables: [left, right],
-                rows: relation,
-                answer,
-                others: &mut |left, right| oracle::tuned_maker::make(left, right, relation, output),
-            })
-        });
-    })
-}
-
-/// These functions are right where nothing is changed.
-#[test]
-fn right_answers_are_no_difference() {
-    let right = |asked: &mut Asked| (asked.others)(asked.tables[0], asked.tables[1]);
-    assert!(!judge_differs(right));
-    assert!(!maker_differs(right));
 }
 
 #[test]
 fn a_wrong_starts_rule_is_found() {
-    for (name, wrong) in STARTS_RULE {
-        assert!(judge_differs(wrong), "the judge: {name}");
-        assert!(maker_differs(wrong), "the maker: {name}");
-    }
+    require_found(&STARTS_RULE);
 }
 
 #[test]
 fn a_wrong_reader_of_start_words_is_found() {
-    for (name, wrong) in WORDS {
-        assert!(judge_differs(wrong), "the judge: {name}");
-        assert!(maker_differs(wrong), "the maker: {name}");
-    }
+    require_found(&WORDS);
 }

@@ -1,0 +1,70 @@
+//! Tables of the later versions, written out byte by byte, and the answers to them, worked
+//! out by hand from the documents.
+
+mod marks;
+mod starts;
+
+use crate::{hex, Answer};
+
+/// Two tables, a certificate, and what the judge answers.
+#[derive(Clone)]
+pub struct Case {
+    pub name: String,
+    pub left: Vec<u8>,
+    pub right: Vec<u8>,
+    pub certificate: Vec<u8>,
+    pub answer: Answer,
+}
+
+/// A table that is refused, with its number and a.
+type Refused = (&'static str, Vec<u8>, [u64; 2]);
+
+/// P, Q and K of the scope document, in version 1.
+const P: &[u8] = b"TPT\0\x01\x02\0\0\x02\0\0\0\x01\0\x01\x01\0";
+const Q: &[u8] = b"TPT\0\x01\x03\0\0\x03\0\0\0\0\0\x01\0\x01\x01\x02\x02\0";
+const K: &[u8] = b"TPC\0\x01\x02\x03\0\x02\0\x03\
+    \0\0\0\0\0\0\0\x03\0\0\0\0\0\0\0\x04\
+    \0\0\0\0\0\0\x01\0\0\0\0\0\x01\0\0\0\0\0\0\0\0\0\0\0";
+
+/// All cases. Each certificate that is accepted is the one that the maker writes.
+pub fn cases() -> Vec<Case> {
+    let mut cases = [starts::cases(), marks::cases()].concat();
+    for (name, table, [code, a]) in [starts::refused_tables(), marks::refused_tables()].concat() {
+        let file = |file: u64, left: &[u8], right: &[u8]| Case {
+            name: format!("{name}, file {file}"),
+            left: left.to_vec(),
+            right: right.to_vec(),
+            certificate: K.to_vec(),
+            answer: [code, file, a, 0, 0, 0],
+        };
+        cases.push(file(0, &table, Q));
+        cases.push(file(1, P, &table));
+        // "two bad tables: the left is reported"
+        cases.push(file(0, &table, &table));
+    }
+    cases
+}
+
+/// P and Q in later versions, as the files of a run.
+pub fn files_of_run() -> Vec<[Vec<u8>; 3]> {
+    [&starts::files_of_run()[..], &marks::files_of_run()].concat()
+}
+
+/// A run of P from its state 0 that is followed on Q from its state 0: "the state and its
+/// 16-bit block number", and the block number of each state given.
+pub const PATH: [u8; 4] = [0, 1, 0, 1];
+pub const STATES: [u8; 18] = [0, 0, 0, 1, 0, 0, 2, 0, 1, 0, 0, 2, 1, 0, 2, 2, 0, 3];
+pub const BLOCKS: [u8; 8] = [0, 0, 0, 1, 0, 2, 0, 3];
+
+impl Case {
+    /// All of a case, for a message.
+    pub fn told(&self) -> String {
+        format!(
+            "{}\nleft        {}\nright       {}\ncertificate {}\n",
+            self.name,
+            hex(&self.left),
+            hex(&self.right),
+            hex(&self.certificate),
+        )
+    }
+}

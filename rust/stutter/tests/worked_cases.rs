@@ -1,0 +1,13 @@
+//! The cases that were worked out by hand, through the C interface.
+
+use compare::Functions;
+
+#[test]
+fn the_worked_cases_are_answered() {
+    let functions = Functions {
+        judge: stutter::judge,
+        make: stutter::make,
+        follow: stutter::follow,
+    };
+    functions.require_worked();
+}
