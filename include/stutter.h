@@ -33,11 +33,11 @@ extern "C" {
  *   15       a the first row with a state that the right table does not have
  *   16       a left start, b right start: they are not related. Where either table has a start word: a side (0 left, 1 right), b its first start that
  *            is related to no start of the other table, left side first
- *   17       a left state, b right state: they are related and their marks differ
+ *   17       a left state, b right state: they are related and their marks differ, as numbers, whatever the width that each has in its file
  *   18, 19   a side (0 left, 1 right), b left state, c right state, d step: no clause holds of this step. 18 where no ranks could help: its end
  *            and the other state are not related, and no step of the other state stays related; 19 otherwise
- *   24       a the first step that is not greater than the one before it, by from, then by to (versions 2 and 3, in place of 9)
- *   28       none: the start word is 0 or has a bit that is no state (version 3, in place of 5)
+ *   24       a the first step that is not greater than the one before it, by from, then by to (versions 2 to 4, in place of 9)
+ *   28       none: the start word is 0 or has a bit that is no state (versions 3 and 4, in place of 5)
  */
 bool stutter_judge(const uint8_t *left, size_t left_length,
                    const uint8_t *right, size_t right_length,

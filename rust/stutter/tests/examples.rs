@@ -18,7 +18,7 @@ fn the_systems_get_the_answers_beside_them() {
         }
     }
     codes.sort();
-    assert_eq!(codes, [0, 0, 0, 0, 16, 22, 23, 23]);
+    assert_eq!(codes, [0, 0, 0, 0, 0, 16, 17, 22, 23, 23]);
 }
 
 /// Makes and judges one system, follows runs of each side where it is accepted, and gives
