@@ -82,7 +82,7 @@ pub fn see_success(report: &mut Report, success: &str, files: Files) {
     );
 }
 
-/// "17 when marks differ", so where nothing is refused they are equal.
+/// "marks differ" is 17, so where nothing is refused related ones are equal.
 fn related_marks_are_equal(files: Files) -> bool {
     let [left, right] = files.tables().map(marks);
     (0..left.len()).all(|s| {
