@@ -161,13 +161,7 @@ pub fn cases() -> Vec<Case> {
             differ(1, 2),
         ),
     ]
-    .map(|(name, left, right, answer)| Case {
-        name: name.to_string(),
-        left,
-        right,
-        certificate: K.to_vec(),
-        answer,
-    })
+    .map(Case::with_k)
     .into()
 }
 

@@ -30,12 +30,10 @@ const K: &[u8] = b"TPC\0\x01\x02\x03\0\x02\0\x03\
 pub fn cases() -> Vec<Case> {
     let mut cases = [starts::cases(), marks::cases()].concat();
     for (name, table, [code, a]) in [starts::refused_tables(), marks::refused_tables()].concat() {
-        let file = |file: u64, left: &[u8], right: &[u8]| Case {
-            name: format!("{name}, file {file}"),
-            left: left.to_vec(),
-            right: right.to_vec(),
-            certificate: K.to_vec(),
-            answer: [code, file, a, 0, 0, 0],
+        let file = |file: u64, left: &[u8], right: &[u8]| {
+            let name = format!("{name}, file {file}");
+            let answer = [code, file, a, 0, 0, 0];
+            Case::with_k((&name, left.to_vec(), right.to_vec(), answer))
         };
         cases.push(file(0, &table, Q));
         cases.push(file(1, P, &table));
@@ -57,6 +55,17 @@ pub const STATES: [u8; 18] = [0, 0, 0, 1, 0, 0, 2, 0, 1, 0, 0, 2, 1, 0, 2, 2, 0,
 pub const BLOCKS: [u8; 8] = [0, 0, 0, 1, 0, 2, 0, 3];
 
 impl Case {
+    /// Two tables with K.
+    fn with_k((name, left, right, answer): (&str, Vec<u8>, Vec<u8>, Answer)) -> Case {
+        Case {
+            name: name.to_string(),
+            left,
+            right,
+            certificate: K.to_vec(),
+            answer,
+        }
+    }
+
     /// All of a case, for a message.
     pub fn told(&self) -> String {
         format!(

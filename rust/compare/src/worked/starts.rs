@@ -94,13 +94,7 @@ fn pairs_of_p_and_q() -> Vec<Case> {
             unpaired(0, 1),
         ),
     ]
-    .map(|(name, left, right, answer)| Case {
-        name: name.to_string(),
-        left,
-        right,
-        certificate: K.to_vec(),
-        answer,
-    })
+    .map(Case::with_k)
     .into()
 }
 
