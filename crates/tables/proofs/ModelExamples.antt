@@ -42,7 +42,8 @@ Q = (0x54 ∷ 0x50 ∷ 0x54 ∷ 0 ∷ 1 ∷ 3 ∷ 0 ∷ 0 ∷ 3 ∷ []) ++ marks
 
 -- In this version, with the starts 0 and 2 and these marks.
 abbrev twoStarts : ℕ → List ℕ → List ℕ
-twoStarts version marks = (0x54 ∷ 0x50 ∷ 0x54 ∷ 0 ∷ version ∷ 3 ∷ 0 ∷ 0 ∷ 0 ∷ 0 ∷ 0 ∷ 0 ∷ 0 ∷ 0x05 ∷ 0 ∷ 3 ∷ []) ++ marks ++ steps
+twoStarts version marks =
+    (0x54 ∷ 0x50 ∷ 0x54 ∷ 0 ∷ version ∷ 3 ∷ 0 ∷ 0 ∷ 0 ∷ 0 ∷ 0 ∷ 0 ∷ 0 ∷ 0x05 ∷ 0 ∷ 3 ∷ []) ++ marks ++ steps
 
 -- The first three values.
 abbrev three : {A : Type 0} → (ℕ → A) → List A
