@@ -1,8 +1,10 @@
-# make run     prove and build the two programs, and run them on the example P, Q, K of the format's document
-# make test    the whole gate: layout; rt ci, which proves every crate from nothing, tries the must-fail edits and runs the programs; the Rust tests on
-#              what it proved. Where all of this passes, the last line is that of rt ci, 'N passed, 0 failed', said again
-# make bench   speed of the proved judge, maker and follower and of the listing program beside Rust versions, as ratios in one run; no part of the gate
-# make fmt     lay out every file under crates/
+# make run       prove and build the two programs, and run them on the example P, Q, K of the format's document
+# make examples  prove and build the library, and compile the C examples with it: target/judge, target/make, target/follow and target/write
+# make test      the whole gate: layout; rt ci, which proves every crate from nothing, tries the must-fail edits and runs the programs; the Rust tests
+#                on what it proved. Where all of this passes, the last line is that of rt ci, 'N passed, 0 failed', said again
+# make bench     speed of the proved judge, maker, follower and writer and of the listing program beside Rust versions, as ratios in one run; no part of
+#                the gate
+# make fmt       lay out every file under crates/
 
 # rt waits for the slowest of the crates or edits that it has started together; four at a time leave two cores the least idle.
 export RT_JOBS ?= 4
@@ -24,7 +26,7 @@ VERDICT = rust/target/verdict
 SHELL = /bin/bash
 .SHELLFLAGS = -o pipefail -c
 
-.PHONY: run test bench fmt
+.PHONY: run examples test bench fmt
 
 run:
 	rt check judge
@@ -33,6 +35,10 @@ run:
 	@sh examples/input examples/P.hex examples/Q.hex examples/K.hex | target/bin/judge
 	@echo "and listed:"
 	@sh examples/input examples/P.hex examples/Q.hex examples/K.hex | target/bin/listing
+
+examples:
+	rt staticlib stutter
+	for name in judge make follow write; do cc -I include examples/$$name.c target/staticlib/libstutter.a -o target/$$name || exit; done
 
 test:
 	rt fmt --check

@@ -1,4 +1,4 @@
-/* Reading files and printing answers, for the examples in C. */
+/* Reading and writing files and printing answers, for the examples in C. */
 #ifndef FILES_H
 #define FILES_H
 
@@ -24,6 +24,16 @@ static inline bool read_file(const char *name, struct file *file)
     }
     file->length = fread(file->bytes, 1, MOST, stream);
     fclose(stream);
+    return true;
+}
+
+static inline bool write_file(const char *name, const uint8_t *bytes, size_t length)
+{
+    FILE *stream = fopen(name, "wb");
+    if (stream == NULL || fwrite(bytes, 1, length, stream) != length || fclose(stream) != 0) {
+        perror(name);
+        return false;
+    }
     return true;
 }
 

@@ -22,13 +22,8 @@ int main(int count, char **words)
     if (!stutter_make(files[0].bytes, files[0].length, files[1].bytes, files[1].length, files[2].bytes, files[2].length,
                       output, STUTTER_CERTIFICATE_MOST, answer, STUTTER_ANSWER_LENGTH))
         return 2;
-    if (answer[0] == 0) {
-        FILE *stream = fopen(words[4], "wb");
-        if (stream == NULL || fwrite(output, 1, answer[2], stream) != answer[2] || fclose(stream) != 0) {
-            perror(words[4]);
-            return 2;
-        }
-    }
+    if (answer[0] == 0 && !write_file(words[4], output, answer[2]))
+        return 2;
     print_answer(answer);
     return 0;
 }

@@ -1,5 +1,5 @@
-/* The judge and the maker of stuttering certificates, and the follower of runs, for C. Link with libstutter.a, which `rt staticlib stutter` writes to
- * target/staticlib. */
+/* The judge and the maker of stuttering certificates, the follower of runs and the writer of tables, for C. Link with libstutter.a, which
+ * `rt staticlib stutter` writes to target/staticlib. */
 #ifndef STUTTER_H
 #define STUTTER_H
 
@@ -116,6 +116,40 @@ bool stutter_follow(const uint8_t *left, size_t left_length,
                     uint8_t *states, size_t states_length,
                     uint8_t *blocks, size_t blocks_length,
                     uint64_t *answer, size_t answer_length);
+
+/* The most bytes that are written for a table: one of 64 states and 256 steps. An output of this length serves any table. */
+#define STUTTER_TABLE_MOST 784
+
+/* Writes a state table of version 4. It has a state for each mark, and `starts` has the bit of weight 2 to the power s where the state s is a start. A
+ * step has the state that it leaves in its high byte and the one that it enters in its low byte; the steps come in any order, none twice. Any numbers
+ * are taken, and no list is too short or too long; its length counts numbers, not bytes. No pointer is null, not even that of an empty list or output.
+ *
+ * With n marks and m steps, the table goes to the first 16 + 4n + 2m bytes of `output`, the marks in the order given and the steps in rising order, by
+ * from, then by to; later bytes stay as they are. So the same marks, starts and set of steps always give the same bytes. On a refusal `output` stays as
+ * it was. The six numbers go to the first six places of `answer`, later places stay as they are, and the function returns true. Where `answer_length` is
+ * below six nothing at all is written, neither to `output` nor to `answer`, and it returns false. `output` and `answer` overlap each other and the lists
+ * nowhere.
+ *
+ *   answer[0]  code: 0 where the table was written, which the other functions then read; else the number of the cause for which it was not
+ *   answer[1]  file: 3 on a refusal, the output
+ *   answer[2]  a: as the code says; a value that it does not name is 0, and so are the last three places
+ *
+ *   code     a
+ *   0        the bytes of the table, 16 + 4n + 2m
+ *   4        none: there are not 1 to 64 marks
+ *   28       none: the start word is 0 or has a bit that is no state
+ *   6        none: there are over 256 steps
+ *   8        the first step, as given, that leaves or enters no state
+ *   9        the first step, as given, that equals an earlier one
+ *   21       the bytes that the table needs, 16 + 4n + 2m: the output has fewer. With an output of no bytes this asks for them
+ *
+ * Where several of these apply, the one that stands first here is answered.
+ */
+bool stutter_write(const uint32_t *marks, size_t marks_length,
+                   uint64_t starts,
+                   const uint16_t *steps, size_t steps_length,
+                   uint8_t *output, size_t output_length,
+                   uint64_t *answer, size_t answer_length);
 
 #ifdef __cplusplus
 }

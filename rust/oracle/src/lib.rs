@@ -1,5 +1,5 @@
-//! A plain judge and a plain maker of stuttering certificates, and a plain follower of
-//! runs.
+//! A plain judge and a plain maker of stuttering certificates, a plain follower of runs and
+//! a plain writer of tables.
 //!
 //! Every notion of the scope document and of the change requests has one function
 //! here, and the comment above it quotes the sentence it follows, so that the two can
@@ -18,6 +18,7 @@ mod table;
 pub mod tuned;
 pub mod tuned_follow;
 pub mod tuned_maker;
+mod write;
 
 pub use certificate::Layout;
 pub use follow::follow;
@@ -26,7 +27,8 @@ pub use listing::{list, listing_program, Line};
 pub use maker::{make, make_by_relaxing};
 pub use path::path_property;
 pub use program::{pieces, program};
-pub use table::{Step, Table, TableLayout};
+pub use table::{read_table, Step, Table, TableLayout};
+pub use write::write;
 
 /// "Six numbers: code, file, a, b, c, d."
 pub type Answer = [u64; 6];

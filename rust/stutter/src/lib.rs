@@ -1,5 +1,5 @@
-//! The proved judge, the proved maker and the proved follower, for Rust: a safe interface
-//! to `include/stutter.h`.
+//! The proved judge, the proved maker, the proved follower and the proved writer, for Rust:
+//! a safe interface to `include/stutter.h`.
 
 /// "Six numbers: code, file, a, b, c, d."
 pub type Answer = [u64; 6];
@@ -48,7 +48,22 @@ extern "C" {
         answer: *mut u64,
         answer_length: usize,
     ) -> bool;
+
+    fn stutter_write(
+        marks: *const u32,
+        marks_length: usize,
+        starts: u64,
+        steps: *const u16,
+        steps_length: usize,
+        output: *mut u8,
+        output_length: usize,
+        answer: *mut u64,
+        answer_length: usize,
+    ) -> bool;
 }
+
+/// The most bytes that are written for a table, one of 64 states and 256 steps.
+pub const TABLE_MOST: usize = 784;
 
 /// Judges a certificate for two tables.
 pub fn judge(left: &[u8], right: &[u8], certificate: &[u8]) -> Answer {
@@ -175,6 +190,42 @@ pub fn follow_into(
             states.len(),
             blocks.as_mut_ptr(),
             blocks.len(),
+            answer.as_mut_ptr(),
+            answer.len(),
+        )
+    }
+}
+
+/// Writes a table of version 4 at the front of `output`, with a mark for each state, a start
+/// for each bit of the word, and steps in any order, from in the high byte and to in the low
+/// one. On a refusal `output` stays as it was.
+pub fn write(marks: &[u32], starts: u64, steps: &[u16], output: &mut [u8]) -> Answer {
+    let mut answer = [0; 6];
+    let had_room = write_into(marks, starts, steps, output, &mut answer);
+    assert!(had_room, "six places are room enough");
+    answer
+}
+
+/// Writes, and puts the six numbers into the first six places of `answer`. Where it has
+/// fewer, nothing is written, `output` stays as it was, and the result is false.
+pub fn write_into(
+    marks: &[u32],
+    starts: u64,
+    steps: &[u16],
+    output: &mut [u8],
+    answer: &mut [u64],
+) -> bool {
+    // SAFETY: each pointer comes with its slice's length, the slices live through
+    // the call, `output` and `answer` are borrowed for it alone, and nothing is kept.
+    unsafe {
+        stutter_write(
+            marks.as_ptr(),
+            marks.len(),
+            starts,
+            steps.as_ptr(),
+            steps.len(),
+            output.as_mut_ptr(),
+            output.len(),
             answer.as_mut_ptr(),
             answer.len(),
         )
