@@ -1,5 +1,5 @@
-//! Runs the comparisons of the oracle with its tuned judge, maker and follower and with
-//! itself at full length, and prints their times and what was seen.
+//! Runs the comparisons of the oracle with its tuned judge, maker, follower and writer and
+//! with itself at full length, and prints their times and what was seen.
 
 use std::time::Instant;
 
@@ -12,6 +12,9 @@ fn main() {
     });
     run("100,000 inputs, plain follower and tuned follower", || {
         compare::follow(100_000, 5, oracle::tuned_follow::follow)
+    });
+    run("100,000 inputs, plain writer and tuned writer", || {
+        compare::write(100_000, 6, oracle::tuned_write::write)
     });
     run("50,000 inputs, program and itself", || {
         compare::program(50_000, 3, oracle::program)

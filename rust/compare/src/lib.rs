@@ -16,6 +16,8 @@ mod runs_seen;
 mod starts_seen;
 mod tables;
 mod worked;
+mod write;
+mod writes_seen;
 
 pub use accepted::Accepted;
 use answers_seen::Files;
@@ -28,6 +30,8 @@ use names::{limit_names, size_names};
 pub use path_property::Implementation;
 pub use report::Report;
 use tables::{states, steps};
+pub use worked::require_worked_tables;
+pub use write::write;
 
 type Answer = [u64; 6];
 

@@ -1,4 +1,4 @@
-//! The oracle beside the tuned judge, maker and follower and beside itself, on enough
+//! The oracle beside the tuned judge, maker, follower and writer and beside itself, on enough
 //! inputs that every number, side, clause and limit is seen, and beside wrong ones.
 
 use compare::Accepted;
@@ -23,6 +23,11 @@ fn the_relaxing_maker_equals_the_plain_one() {
 #[test]
 fn the_tuned_follower_equals_the_plain_one() {
     compare::follow(30_000, 13, oracle::tuned_follow::follow).require_all();
+}
+
+#[test]
+fn the_tuned_writer_equals_the_plain_one() {
+    compare::write(30_000, 14, oracle::tuned_write::write).require_all();
 }
 
 #[test]
@@ -70,6 +75,10 @@ fn the_same_seed_gives_the_same_inputs() {
     let runs = |seed| compare::follow(3_000, seed, oracle::follow).seen;
     assert_eq!(runs(4), runs(4));
     assert_ne!(runs(4), runs(5));
+
+    let tables = |seed| compare::write(3_000, seed, oracle::write).seen;
+    assert_eq!(tables(4), tables(4));
+    assert_ne!(tables(4), tables(5));
 }
 
 /// The answer of a judge that accepts everything is found out.
@@ -102,6 +111,12 @@ fn too_few_inputs_are_found() {
 #[should_panic(expected = "never seen")]
 fn too_few_runs_are_found() {
     compare::follow(20, 8, oracle::follow).require_all();
+}
+
+#[test]
+#[should_panic(expected = "never seen")]
+fn too_few_tables_are_found() {
+    compare::write(20, 8, oracle::write).require_all();
 }
 
 #[test]

@@ -1,7 +1,7 @@
 //! The plain and the tuned functions on the cases that were worked out by hand.
 
 use compare::Functions;
-use oracle::{make_by_relaxing, tuned, tuned_follow, tuned_maker};
+use oracle::{make_by_relaxing, tuned, tuned_follow, tuned_maker, tuned_write};
 
 #[test]
 fn the_plain_functions_are_right() {
@@ -23,4 +23,10 @@ fn the_tuned_functions_are_right() {
         follow: tuned_follow::follow,
     };
     functions.require_worked();
+}
+
+#[test]
+fn the_writers_are_right() {
+    compare::require_worked_tables(oracle::write);
+    compare::require_worked_tables(tuned_write::write);
 }

@@ -1,6 +1,6 @@
-//! Inputs for the judge, the maker, the follower and the two programs: the same ones for
-//! the same seed. `JudgeCases`, `MakeCases`, `FollowCases`, `ProgramCases` and
-//! `ListingCases` are iterators over them.
+//! Inputs for the judge, the maker, the follower, the writer and the two programs: the same
+//! ones for the same seed. `JudgeCases`, `MakeCases`, `FollowCases`, `WriteCases`,
+//! `ProgramCases` and `ListingCases` are iterators over them.
 
 mod byte_edits;
 mod certificate_edits;
@@ -21,6 +21,8 @@ mod system;
 mod system_edits;
 mod table_edits;
 mod walks;
+mod write_cases;
+mod write_edits;
 
 pub use families::{all_related, any_system, long_chains, long_distances, long_waits};
 pub use follow_cases::{FollowCase, FollowCases};
@@ -32,3 +34,5 @@ pub use random::Random;
 pub use run_edits::{Run, RUN_EDITS};
 pub use spaced::spaced;
 pub use system::{relation_bytes, save_in, table_bytes, System, VERSIONS};
+pub use write_cases::{WriteCase, WriteCases};
+pub use write_edits::{OUTPUT_EDITS, WRITE_EDITS};

@@ -3,8 +3,8 @@
 //!
 //! Every notion of the scope document and of the change requests has one function
 //! here, and the comment above it quotes the sentence it follows, so that the two can
-//! be read side by side. Nothing is tuned for speed; `tuned`, `tuned_maker` and
-//! `tuned_follow` are, and are checked against the rest.
+//! be read side by side. Nothing is tuned for speed; `tuned`, `tuned_maker`,
+//! `tuned_follow` and `tuned_write` are, and are checked against the rest.
 
 mod certificate;
 mod follow;
@@ -18,6 +18,7 @@ mod table;
 pub mod tuned;
 pub mod tuned_follow;
 pub mod tuned_maker;
+pub mod tuned_write;
 mod write;
 
 pub use certificate::Layout;

@@ -1,10 +1,12 @@
-//! Tables of the later versions, written out byte by byte, and the answers to them, worked
-//! out by hand from the documents.
+//! Tables of the later versions, written out byte by byte, and the answers to them and to
+//! what a writer is given, worked out by hand from the documents.
 
 mod marks;
 mod starts;
+mod tables;
 
 use crate::{hex, Answer};
+pub use tables::require_worked_tables;
 
 /// Two tables, a certificate, and what the judge answers.
 #[derive(Clone)]
