@@ -6,6 +6,7 @@ use inputs::System;
 use oracle::Table;
 use std::fs;
 use std::path::Path;
+use text::Example;
 
 #[test]
 fn the_systems_get_the_answers_beside_them() {
@@ -26,27 +27,27 @@ fn the_systems_get_the_answers_beside_them() {
 fn run(path: &Path) -> u64 {
     let name = path.display();
     let example = text::read(path).unwrap_or_else(|why| panic!("{why}"));
-    let (left, right) = (example.system.left_bytes(), example.system.right_bytes());
-    let relation = example.system.relation_bytes();
-    let (expected, certificate) = example.system.make();
+    let system = read(&example);
+    let (left, right) = (&example.left, &example.right);
+    let (expected, certificate) = system.make();
     let mut output = vec![0; certificate.len()];
-    let made = stutter::make(&left, &right, &relation, &mut output);
+    let made = stutter::make(left, right, &example.relation, &mut output);
     assert_eq!(made, expected, "{name}: the oracle's maker");
     assert_eq!(made, example.make, "{name}: its line 'make'");
     if made[0] == 0 {
         assert!(output == certificate, "{name}: the certificates differ");
-        let judged = stutter::judge(&left, &right, &output);
-        assert_eq!(judged, oracle::judge(&left, &right, &output), "{name}");
+        let judged = stutter::judge(left, right, &output);
+        assert_eq!(judged, oracle::judge(left, right, &output), "{name}");
         assert_eq!(Some(judged), example.judge, "{name}: its line 'judge'");
         assert_eq!(judged[0], 0, "{name}");
-        for (side, first, start) in paired_starts(&example.system) {
+        for (side, first, start) in paired_starts(&system) {
             let given = Given {
-                left: &left,
-                right: &right,
+                left,
+                right,
                 certificate: &output,
                 side: side as u64,
                 start: start as u64,
-                path: &long_path(example.system.table(side), first),
+                path: &long_path(system.table(side), first),
             };
             let run = format!("{name}, side {side} from {first} and {start}");
             follow(&run, &given);
@@ -55,6 +56,30 @@ fn run(path: &Path) -> u64 {
         assert_eq!(example.judge, None, "{name}: there is nothing to judge");
     }
     made[0]
+}
+
+/// The system of these bytes, which are those that the tests' own code gives it in version 4.
+fn read(example: &Example) -> System {
+    let table = |bytes: &[u8], file| {
+        let table = oracle::read_table(bytes, file).expect("the table is well formed");
+        assert_eq!(table.version, 4);
+        table
+    };
+    let (left, right) = (table(&example.left, 0), table(&example.right, 1));
+    let related = |row: &[u8]| {
+        let word = u64::from_be_bytes(row.try_into().expect("a row has eight bytes"));
+        (0..right.states()).map(|t| word >> t & 1 == 1).collect()
+    };
+    let related = example.relation.chunks(8).map(related).collect();
+    let system = System {
+        left,
+        right,
+        related,
+    };
+    assert_eq!(system.left_bytes(), example.left);
+    assert_eq!(system.right_bytes(), example.right);
+    assert_eq!(system.relation_bytes(), example.relation);
+    system
 }
 
 /// Each side, each of its starts, and each start of the other side that this is related to.

@@ -1,14 +1,15 @@
 //! Tables and relations in a readable form, as under `examples/systems`, where its
-//! README says what each line means.
+//! README says what each line means. The tables are written by the proved writer.
 
-use inputs::{save_in, System};
-use oracle::{Answer, Step, Table};
 use std::fs;
-use std::path::Path;
+use std::path::{Path, PathBuf};
+use stutter::{Answer, TABLE_MOST};
 
-/// A relation file: two tables, which states are related, and what is answered.
+/// A relation file: the bytes of two tables and of the relation, and what is answered.
 pub struct Example {
-    pub system: System,
+    pub left: Vec<u8>,
+    pub right: Vec<u8>,
+    pub relation: Vec<u8>,
     /// What the maker answers.
     pub make: Answer,
     /// What the judge answers to the certificate, where one is made.
@@ -18,11 +19,13 @@ pub struct Example {
 /// A table whose states and labels have names.
 #[derive(Default)]
 struct Named {
+    file: PathBuf,
     states: Vec<String>,
     labels: Vec<(String, u32)>,
     marks: Vec<u32>,
     starts: Vec<usize>,
-    steps: Vec<Step>,
+    /// From and to.
+    steps: Vec<[usize; 2]>,
 }
 
 /// A line that is not empty: where it stands, and its words.
@@ -49,34 +52,33 @@ pub fn read(path: &Path) -> Result<Example, String> {
     let missing = |what| format!("{}: it has no line '{what}'", path.display());
     let left = left.ok_or_else(|| missing("left"))?;
     let right = right.ok_or_else(|| missing("right"))?;
+    let (left_bytes, right_bytes) = (left.written()?, right.written()?);
     let related = relation(&related, &left, &right)?;
     Ok(Example {
-        system: System {
-            left: left.table(path)?,
-            right: right.table(path)?,
-            related,
-        },
+        left: left_bytes,
+        right: right_bytes,
+        relation: related.into_iter().flat_map(u64::to_be_bytes).collect(),
         make: make.ok_or_else(|| missing("make"))?,
         judge,
     })
 }
 
-/// Which left state is related to which right state.
-fn relation(lines: &[Line], left: &Named, right: &Named) -> Result<Vec<Vec<bool>>, String> {
-    let mut related = vec![vec![false; right.states.len()]; left.states.len()];
+/// For each left state the word of the right states that it is related to. Both tables have
+/// at most 64 states.
+fn relation(lines: &[Line], left: &Named, right: &Named) -> Result<Vec<u64>, String> {
+    let mut related = vec![0; left.states.len()];
     for line in lines {
         match line.words().as_slice() {
             ["related", "equal", "labels"] => {
                 for (row, own) in related.iter_mut().zip(&left.marks) {
-                    for (pair, other) in row.iter_mut().zip(&right.marks) {
-                        *pair |= own == other;
-                    }
+                    let others = 0..right.marks.len();
+                    *row |= word(others.filter(|&other| right.marks[other] == *own));
                 }
             }
             ["related", own, "~", others @ ..] => {
                 let own = line.state(left, own)?;
                 for other in others {
-                    related[own][line.state(right, other)?] = true;
+                    related[own] |= word([line.state(right, other)?]);
                 }
             }
             _ => return line.fail("relates no states"),
@@ -117,41 +119,52 @@ fn read_table(path: &Path) -> Result<Named, String> {
                 let from = line.state(&table, from)?;
                 for to in ends {
                     let to = line.state(&table, to)?;
-                    table.steps.push(Step { from, to });
+                    table.steps.push([from, to]);
                 }
             }
             _ => return line.fail("is no line of a table"),
         }
     }
+    table.file = path.to_path_buf();
     Ok(table)
 }
 
+/// The word with the bits of these states. It has none for states from 64 on, with which no
+/// table is written.
+fn word(states: impl IntoIterator<Item = usize>) -> u64 {
+    let bit = |state: usize| 1u64.checked_shl(state as u32).unwrap_or(0);
+    states.into_iter().map(bit).fold(0, |word, bit| word | bit)
+}
+
 impl Named {
-    /// The table as it is written: in version 1, with several starts in version 3, and with
-    /// a mark above 65,535 in version 4.
-    fn table(self, path: &Path) -> Result<Table, String> {
-        let fail = |what| Err(format!("{}: {what}", path.display()));
-        if self.states.len() > 64 || self.steps.len() > 256 {
-            return fail("a table has more than 64 states or more than 256 steps");
+    /// The bytes of the table.
+    fn written(&self) -> Result<Vec<u8>, String> {
+        let starts = word(self.starts.iter().copied());
+        let step = |&[from, to]: &[usize; 2]| (from * 256 + to) as u16;
+        let steps: Vec<u16> = self.steps.iter().map(step).collect();
+        let mut output = vec![0; TABLE_MOST];
+        let answer = stutter::write(&self.marks, starts, &steps, &mut output);
+        if answer[0] == 0 {
+            output.truncate(answer[2] as usize);
+            Ok(output)
+        } else {
+            Err(format!("{}: {}", self.file.display(), self.refused(answer)))
         }
-        if self.starts.is_empty() {
-            return fail("a table has no line 'start'");
+    }
+
+    /// What is wrong, by the writer's answer. Names are those of states and the output is long
+    /// enough, so it has no other.
+    fn refused(&self, answer: Answer) -> String {
+        match answer[0] {
+            4 => format!("it has {} states; a table has 1 to 64", self.states.len()),
+            28 => "it has no line 'start'".to_string(),
+            6 => format!("it has {} steps; a table has at most 256", self.steps.len()),
+            9 => {
+                let [from, to] = self.steps[answer[2] as usize].map(|state| &self.states[state]);
+                format!("the step {from} -> {to} stands twice")
+            }
+            _ => format!("the writer answers {answer:?}"),
         }
-        let version = match (self.starts.len(), self.marks.iter().max()) {
-            (_, Some(65_536..)) => 4,
-            (1, _) => 1,
-            _ => 3,
-        };
-        let mut starts = self.starts;
-        starts.sort();
-        let mut table = Table {
-            version,
-            starts,
-            marks: self.marks,
-            steps: self.steps,
-        };
-        save_in(&mut table, version);
-        Ok(table)
     }
 }
 
@@ -230,66 +243,106 @@ mod tests {
         "label 7 seven # a label\n\nlabel 258 other\nstate a seven\nstate b other\n\
                          state c seven\nstart b\nstep a -> b c\nstep c -> a\n";
 
+    /// The table of version 4 with these starts, marks and steps.
+    fn table(starts: u8, marks: &[[u8; 4]], steps: &[[u8; 2]]) -> Vec<u8> {
+        let header = [b"TPT\0\x04", &[marks.len() as u8][..]].concat();
+        let starts = [0, 0, 0, 0, 0, 0, 0, starts];
+        let m = [0, steps.len() as u8];
+        let parts = [&header[..], &starts, &m, &marks.concat(), &steps.concat()];
+        parts.concat()
+    }
+
+    /// The steps of c stand before those of a, and those of a fall.
     #[test]
     fn the_files_are_as_written() {
-        let example = read_lines(TABLE, "related a ~ a b\nrelated c ~ c\nmake 16 2 1 1 0 0\n");
-        let example = example.expect("the files can be read");
-        let steps = [0, 1, 0, 2, 2, 0];
-        let table = [b"TPT\0\x01\x03\x01\0\x03\0\x07\x01\x02\0\x07", &steps[..]].concat();
-        assert_eq!(example.system.left_bytes(), table);
-        assert_eq!(example.system.right_bytes(), table);
-        let rows = [3u64, 0, 4].map(u64::to_be_bytes).concat();
-        assert_eq!(example.system.relation_bytes(), rows);
-        assert_eq!(example.system.make().0, example.make);
-        assert_eq!(example.judge, None);
-    }
-
-    /// With more than one start the table is of version 3, and its steps rise.
-    #[test]
-    fn several_starts_make_a_start_word() {
-        let lines = format!("{TABLE}start a\nstep b -> c\n");
-        let example = read_lines(&lines, "related equal labels\nmake 0 0 0 0 0 0\n");
-        let system = example.expect("the files can be read").system;
-        let (starts, marks) = ([0, 0, 0, 0, 0, 0, 0, 3], [0, 7, 1, 2, 0, 7]);
-        let steps = [0, 1, 0, 2, 1, 2, 2, 0];
-        let table = [b"TPT\0\x03\x03", &starts[..], b"\0\x04", &marks, &steps].concat();
-        assert_eq!(system.left_bytes(), table);
-        assert_eq!(system.right_bytes(), table);
-    }
-
-    /// With a mark above 65,535 the table is of version 4, and one that is not used does
-    /// not count.
-    #[test]
-    fn large_marks_make_four_bytes() {
-        let lines = |state| format!("{TABLE}label 65536 wide\nlabel 4294967295 widest\n{state}\n");
-        let table = |state| {
-            let example = read_lines(&lines(state), "related equal labels\nmake 0 0 0 0 0 0\n");
-            example.expect("the files can be read").system.left_bytes()
-        };
-        let (starts, steps) = ([0, 0, 0, 0, 0, 0, 0, 2], [0, 1, 0, 2, 2, 0]);
-        let marks = [0, 0, 0, 7, 0, 0, 1, 2, 0, 0, 0, 7];
-        for (state, mark) in [
-            ("state d wide", [0, 1, 0, 0]),
-            ("state d widest", [255, 255, 255, 255]),
-        ] {
-            let parts = [
-                b"TPT\0\x04\x04",
-                &starts[..],
-                b"\0\x03",
-                &marks,
-                &mark,
-                &steps,
-            ];
-            assert_eq!(table(state), parts.concat());
+        let lines = "label 7 seven\nlabel 258 other\nstate a seven\nstate b other\n\
+                     state c seven\nstart b\nstep c -> a\nstep a -> c b\n";
+        let relation = "related a ~ a b\nrelated c ~ c\nmake 16 2 0 1 0 0\n";
+        let marks = [[0, 0, 0, 7], [0, 0, 1, 2], [0, 0, 0, 7]];
+        let expected = table(0b010, &marks, &[[0, 1], [0, 2], [2, 0]]);
+        for lines in [lines, TABLE] {
+            let example = read_lines(lines, relation).expect("the files can be read");
+            assert_eq!([&example.left, &example.right], [&expected; 2]);
+            let rows = [3u64, 0, 4].map(u64::to_be_bytes).concat();
+            assert_eq!(example.relation, rows);
+            let made = stutter::make(&expected, &expected, &rows, &mut [0; 71]);
+            assert_eq!(example.make, made);
+            assert_eq!(example.judge, None);
         }
-        assert_eq!(table("")[..5], *b"TPT\0\x01");
+    }
+
+    #[test]
+    fn several_starts_and_large_marks_are_written() {
+        let lines = "label 65536 wide\nlabel 4294967295 widest\nstate d wide\nstate e widest\n\
+                     start e\nstart a\nstep b -> c\n";
+        let lines = format!("{TABLE}{lines}");
+        let example = read_lines(&lines, "related equal labels\nmake 0 0 0 0 0 0\n");
+        let left = example.expect("the files can be read").left;
+        let marks = [
+            [0, 0, 0, 7],
+            [0, 0, 1, 2],
+            [0, 0, 0, 7],
+            [0, 1, 0, 0],
+            [255, 255, 255, 255],
+        ];
+        let steps = [[0, 1], [0, 2], [1, 2], [2, 0]];
+        assert_eq!(left, table(0b10011, &marks, &steps));
     }
 
     #[test]
     fn equal_labels_are_related() {
         let example = read_lines(TABLE, "related equal labels\nmake 0 0 0 0 0 0\n");
-        let pairs = example.expect("the files can be read").system.pairs();
-        assert_eq!(pairs, [(0, 0), (0, 2), (1, 1), (2, 0), (2, 2)]);
+        let relation = example.expect("the files can be read").relation;
+        let rows = [0b101u64, 0b010, 0b101].map(u64::to_be_bytes);
+        assert_eq!(relation, rows.concat());
+    }
+
+    /// What the writer refuses is told by the table's file and in words.
+    #[test]
+    fn a_table_that_is_not_written_is_named() {
+        let states = |n: usize| {
+            let states = (0..n).map(|s| format!("state {s} seven\n"));
+            let start = if n > 0 {
+                format!("start {}\n", n - 1)
+            } else {
+                String::new()
+            };
+            format!("label 7 seven\n{}{start}", states.collect::<String>())
+        };
+        // All steps of so many states.
+        let complete = |n: usize| {
+            let ends: Vec<String> = (0..n).map(|s| s.to_string()).collect();
+            let steps = ends
+                .iter()
+                .map(|from| format!("step {from} -> {}\n", ends.join(" ")));
+            states(n) + &steps.collect::<String>()
+        };
+        let told = |lines: String| read_lines(&lines, "make 0 0 0 0 0 0\n").err();
+        for (lines, expected) in [
+            (states(0), "/table: it has 0 states; a table has 1 to 64"),
+            (states(65), "/table: it has 65 states; a table has 1 to 64"),
+            (
+                states(300),
+                "/table: it has 300 states; a table has 1 to 64",
+            ),
+            (
+                complete(17),
+                "/table: it has 289 steps; a table has at most 256",
+            ),
+            (
+                format!("{TABLE}step c -> b a\n"),
+                "/table: the step c -> a stands twice",
+            ),
+            (
+                TABLE.replace("start b", ""),
+                "/table: it has no line 'start'",
+            ),
+        ] {
+            let found = told(lines).expect("the table is not written");
+            assert!(found.ends_with(expected), "{found}");
+        }
+        assert_eq!(told(states(64)), None);
+        assert_eq!(told(complete(16)), None);
     }
 
     #[test]
@@ -323,7 +376,6 @@ mod tests {
             (relation("judge 0"), "has not six numbers"),
             (relation("left no-such-file"), "no-such-file: "),
             (read_lines(TABLE, "").err(), "it has no line 'make'"),
-            (read_lines("", make).err(), "a table has no line 'start'"),
         ] {
             let found = found.expect("the files cannot be read");
             assert!(found.contains(expected), "{found}");

@@ -9,14 +9,14 @@ fn main() {
     let [example, left, right, relation] = words.as_slice() else {
         fail("usage: text FILE.relation LEFT RIGHT RELATION");
     };
-    let system = match text::read(Path::new(example)) {
-        Ok(example) => example.system,
+    let example = match text::read(Path::new(example)) {
+        Ok(example) => example,
         Err(why) => fail(&why),
     };
     for (name, bytes) in [
-        (left, system.left_bytes()),
-        (right, system.right_bytes()),
-        (relation, system.relation_bytes()),
+        (left, example.left),
+        (right, example.right),
+        (relation, example.relation),
     ] {
         if let Err(why) = fs::write(name, bytes) {
             fail(&format!("{name}: {why}"));
