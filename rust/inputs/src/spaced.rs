@@ -1,8 +1,8 @@
 use std::ops::Range;
 
-/// Files in one buffer, with the filler before, between and after them, and where each
-/// stands: a byte read beside a file is the filler.
-pub fn spaced<const N: usize>(files: [&[u8]; N], filler: u8) -> (Vec<u8>, [Range<usize>; N]) {
+/// Files or lists in one buffer, with the filler before, between and after them, and where
+/// each stands: what is read beside one of them is the filler.
+pub fn spaced<T: Copy, const N: usize>(files: [&[T]; N], filler: T) -> (Vec<T>, [Range<usize>; N]) {
     let mut buffer = vec![filler; 16];
     let places = files.map(|file| {
         let start = buffer.len();

@@ -11,3 +11,8 @@ fn the_worked_cases_are_answered() {
     };
     functions.require_worked();
 }
+
+#[test]
+fn the_worked_tables_are_written() {
+    compare::require_worked_tables(stutter::write);
+}
