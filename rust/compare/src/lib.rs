@@ -1,6 +1,5 @@
 //! Runs an implementation beside the oracle on generated inputs. At the first
-//! difference it panics with the input in hexadecimal; otherwise it reports what
-//! was seen.
+//! difference it panics with the input; otherwise it reports what was seen.
 
 mod accepted;
 mod answers_seen;

@@ -1,5 +1,5 @@
-//! Times the proved judge, the proved maker, the proved follower and the listing program
-//! beside Rust versions, on the same inputs in one run. The versions take turns in every
+//! Times the proved judge, maker, follower and writer and the listing program beside Rust
+//! versions, on the same inputs in one run. The versions take turns in every
 //! round and the medians are compared, so that other load on the machine does not decide.
 
 use inputs::{all_related, long_chains, long_distances, long_waits, Random, System};
@@ -8,7 +8,7 @@ use std::cell::RefCell;
 use std::env;
 use std::fs::{self, File};
 use std::hint::black_box;
-use std::io::{self, Read, Write};
+use std::io::{self, Read, Write as _};
 use std::path::Path;
 use std::process::{self, Command, Stdio};
 use std::time::{Duration, Instant};
@@ -16,6 +16,7 @@ use std::time::{Duration, Instant};
 type Judge = fn(&[u8], &[u8], &[u8]) -> Answer;
 type Make = fn(&[u8], &[u8], &[u8], &mut [u8]) -> Answer;
 type Follow = fn(&[u8], &[u8], &[u8], u64, u64, &[u8], &mut [u8], &mut [u8]) -> Answer;
+type Write = fn(&[u32], u64, &[u16], &mut [u8]) -> Answer;
 
 /// The judges, the proved one first.
 const JUDGES: [(&str, Judge); 3] = [
@@ -36,6 +37,13 @@ const FOLLOWERS: [(&str, Follow); 3] = [
     ("proved", stutter::follow),
     ("plain follower", oracle::follow),
     ("tuned follower", oracle::tuned_follow::follow),
+];
+
+/// The writers, the proved one first. The plain one has the standard library's sort.
+const WRITERS: [(&str, Write); 3] = [
+    ("proved", stutter::write),
+    ("plain writer", oracle::write),
+    ("tuned writer", oracle::tuned_write::write),
 ];
 
 /// With this word this program is the oracle's lister.
@@ -86,6 +94,9 @@ fn main() {
     let (largest, path) = (all_related(), [0, 1]);
     let name = "2 states, all pairs related";
     follow(name, &largest, &path, obligations(&largest));
+    println!("the writer");
+    write("256 shuffled steps", 64);
+    write("all 256 steps of 16 states, shuffled", 16);
     println!("the listing");
     listing("all pairs related", &all_related());
     listing("distances of 63 steps", &long_distances());
@@ -199,6 +210,38 @@ fn listing(name: &'static str, system: &System) {
         calls: vec![("proved", boxed(proved)), ("oracle's lister", boxed(plain))],
     });
     fs::remove_file(&input).expect("the input is removed");
+}
+
+/// The writers on 256 shuffled steps of this many states, at least 16.
+fn write(name: &'static str, states: u16) {
+    let mut random = Random::new(0);
+    let marks: Vec<u32> = (0..states).map(|_| random.word() as u32).collect();
+    let starts = u64::MAX >> (64 - states);
+    let all = (0..states).flat_map(|from| (0..states).map(move |to| from * 256 + to));
+    let mut steps: Vec<u16> = all.collect();
+    random.shuffle(&mut steps);
+    steps.truncate(256);
+    let output = &RefCell::new(vec![0; stutter::TABLE_MOST]);
+    let (marks, steps) = (&marks, &steps);
+    let call = |write: Write| {
+        let (marks, steps) = (black_box(marks), black_box(steps));
+        let output = &mut output.borrow_mut()[..];
+        black_box(write(marks, black_box(starts), steps, black_box(output)))
+    };
+    let answer = call(oracle::write);
+    let expected = output.replace(vec![0; stutter::TABLE_MOST]);
+    assert_eq!(answer[0], 0, "{name}");
+    for (version, write) in WRITERS {
+        assert_eq!(call(write), answer, "{name}, {version}");
+        let written = output.replace(vec![0; stutter::TABLE_MOST]);
+        assert!(written == expected, "{name}, {version}");
+    }
+    let timed = |(version, write)| (version, boxed(move || call(write)));
+    report(&Contest {
+        name,
+        work: (steps.len(), "steps"),
+        calls: WRITERS.map(timed).into(),
+    });
 }
 
 /// What the oracle's lister does as a process.
