@@ -228,7 +228,7 @@ fn applies(case: &WriteCase, cause: u64) -> bool {
     let n = case.marks.len();
     match cause {
         4 => n == 0 || n > 64,
-        28 => case.starts == 0 || n < 64 && case.starts >> n != 0,
+        28 => case.starts == 0 || (n < 64 && case.starts >> n != 0),
         6 => case.steps.len() > 256,
         8 => case.steps.iter().any(|&step| is_high(case, step)),
         9 => first_doubled(&case.steps).is_some(),

@@ -2,7 +2,7 @@
 //! once.
 
 use crate::random::Random;
-use crate::write_edits::{step_of, WriteEdit, OUTPUT_EDITS, WRITE_EDITS};
+use crate::write_edits::{all_steps, WriteEdit, OUTPUT_EDITS, WRITE_EDITS};
 
 #[derive(Clone, PartialEq)]
 pub struct WriteCase {
@@ -142,9 +142,7 @@ fn any_starts(random: &mut Random, n: usize) -> u64 {
 
 /// Different steps between n states, in one of several orders.
 fn any_steps(random: &mut Random, n: usize) -> Vec<u16> {
-    let mut steps: Vec<u16> = (0..n * n)
-        .map(|pair| step_of([(pair / n) as u8, (pair % n) as u8]))
-        .collect();
+    let mut steps = all_steps(n);
     let most = steps.len().min(256);
     let m = match random.below(10) {
         0 => 0,

@@ -7,8 +7,8 @@ use crate::write_cases::WriteCase;
 pub type WriteEdit = (&'static str, fn(&mut Random, &mut WriteCase));
 
 /// Each gives what is turned away for the cause named, or leaves it unchanged where it is too
-/// small for that. They stand in the order of the causes. Several may be made, the later
-/// ones in the list first.
+/// small or too large for that; none but those of 6 gives more than 256 steps. They stand in
+/// the order of the causes. Several may be made, the later ones in the list first.
 pub const WRITE_EDITS: &[WriteEdit] = &[
     ("4: no state", |_, case| case.marks.clear()),
     ("4: 65 states", |random, case| {
@@ -71,9 +71,9 @@ pub const WRITE_EDITS: &[WriteEdit] = &[
     }),
     ("8: one step twice", |random, case| {
         let n = case.marks.len();
-        change_step(random, case, |[from, _]| [from, n as u8]);
-        let high = case.steps.iter().position(|&step| ends(step)[1] == n as u8);
-        if let Some(place) = high {
+        case.steps.truncate(255);
+        if let Some(place) = any_place(random, case) {
+            case.steps[place] = step_of([ends(case.steps[place])[0], n as u8]);
             repeat(random, case, place);
         }
     }),
@@ -90,25 +90,25 @@ pub const WRITE_EDITS: &[WriteEdit] = &[
         }
     }),
     ("9: two neighbours", |random, case| {
+        case.steps.truncate(255);
         if let Some(place) = any_place(random, case) {
-            let step = case.steps[place];
-            put(random, case, place + 1, step);
+            case.steps.insert(place + 1, case.steps[place]);
         }
     }),
-    ("9: two at a distance", |random, case| {
+    ("9: two at any distance", |random, case| {
+        case.steps.truncate(255);
         if let Some(place) = any_place(random, case) {
             repeat(random, case, place);
         }
     }),
     ("9: the first step at the end", |_, case| {
+        case.steps.truncate(255);
         if let Some(&first) = case.steps.first() {
             case.steps.push(first);
-            if case.steps.len() > 256 {
-                case.steps.remove(1);
-            }
         }
     }),
     ("9: three times", |random, case| {
+        case.steps.truncate(254);
         if let Some(place) = any_place(random, case) {
             repeat(random, case, place);
             repeat(random, case, place);
@@ -155,12 +155,20 @@ pub const OUTPUT_EDITS: &[WriteEdit] = &[
 ];
 
 /// From and to.
-pub fn ends(step: u16) -> [u8; 2] {
+fn ends(step: u16) -> [u8; 2] {
     step.to_be_bytes()
 }
 
 pub fn step_of(ends: [u8; 2]) -> u16 {
     u16::from_be_bytes(ends)
+}
+
+/// Every step between n states, rising.
+pub fn all_steps(n: usize) -> Vec<u16> {
+    let pairs = 0..n * n;
+    pairs
+        .map(|pair| step_of([(pair / n) as u8, (pair % n) as u8]))
+        .collect()
 }
 
 /// The bit of this state, where a word has one.
@@ -177,16 +185,13 @@ fn make_states(random: &mut Random, case: &mut WriteCase, n: usize) {
 
 /// Adds steps until there are this many, none twice as long as there are others.
 fn make_steps(random: &mut Random, case: &mut WriteCase, m: usize) {
-    let n = case.marks.len() as u8;
-    let all = (0..n).flat_map(|from| (0..n).map(move |to| step_of([from, to])));
-    let mut others: Vec<u16> = all.filter(|step| !case.steps.contains(step)).collect();
+    let mut others = all_steps(case.marks.len());
+    others.retain(|step| !case.steps.contains(step));
     random.shuffle(&mut others);
     while case.steps.len() < m {
-        let any = step_of([
-            random.below(n as usize) as u8,
-            random.below(n as usize) as u8,
-        ]);
-        case.steps.push(others.pop().unwrap_or(any));
+        let other = others.pop();
+        let step = other.unwrap_or_else(|| random.pick(&case.steps));
+        case.steps.push(step);
     }
 }
 
@@ -205,24 +210,6 @@ fn change_step(random: &mut Random, case: &mut WriteCase, change: impl FnOnce([u
 
 /// Puts the step of this place once more, anywhere after it.
 fn repeat(random: &mut Random, case: &mut WriteCase, place: usize) {
-    let (step, later) = (
-        case.steps[place],
-        random.within(place + 1, case.steps.len()),
-    );
-    put(random, case, later, step);
-}
-
-/// Puts a step here, between two others or for one that stands there. There are then no more
-/// than 256, where there were no more.
-fn put(random: &mut Random, case: &mut WriteCase, place: usize, step: u16) {
-    let m = case.steps.len();
-    if place < m && (m == 256 || random.percent(50)) {
-        case.steps[place] = step;
-    } else if place == m && m == 256 {
-        // The step that stands last is its neighbour, so the first one makes room.
-        case.steps.remove(0);
-        case.steps.push(step);
-    } else {
-        case.steps.insert(place, step);
-    }
+    let later = random.within(place + 1, case.steps.len());
+    case.steps.insert(later, case.steps[place]);
 }

@@ -129,15 +129,15 @@ fn read_table(path: &Path) -> Result<Named, String> {
     Ok(table)
 }
 
-/// The word with the bits of these states. It has none for states from 64 on, with which no
-/// table is written.
+/// The word with the bits of these states. It has none for states from 64 on.
 fn word(states: impl IntoIterator<Item = usize>) -> u64 {
     let bit = |state: usize| 1u64.checked_shl(state as u32).unwrap_or(0);
     states.into_iter().map(bit).fold(0, |word, bit| word | bit)
 }
 
 impl Named {
-    /// The bytes of the table.
+    /// The bytes of the table. A state above 63 has no bit and one above 255 no byte, but with
+    /// so many states the writer looks no further.
     fn written(&self) -> Result<Vec<u8>, String> {
         let starts = word(self.starts.iter().copied());
         let step = |&[from, to]: &[usize; 2]| (from * 256 + to) as u16;
