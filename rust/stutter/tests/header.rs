@@ -293,6 +293,19 @@ fn the_run_of_the_examples_readme() {
     stands_in("examples/README.md", &given);
 }
 
+#[test]
+fn the_table_of_the_examples_readme() {
+    let room = Room::new("write");
+    let lists = ["0,1", "0", "1-0,0-1"];
+    let words = [vec![room.path("P")], lists.map(String::from).to_vec()].concat();
+    let found = room.run(&words);
+    let shown = format!(
+        "    $ target/write target/P {}\n    {found}",
+        lists.join(" ")
+    );
+    assert!(read("examples/README.md").contains(&shown), "{shown}");
+}
+
 /// The first of the commands that the documents show.
 const MAKE_EXAMPLES: &str = "make examples\n";
 
@@ -302,7 +315,9 @@ fn commands(document: &str) -> String {
     let lines = document.lines();
     let shown = lines.skip_while(|line| line.trim() != MAKE_EXAMPLES.trim());
     let commands = shown.map_while(|line| line.strip_prefix("    "));
-    commands.map(|command| format!("{command}\n")).collect()
+    let commands: String = commands.map(|command| format!("{command}\n")).collect();
+    assert!(!commands.is_empty(), "no line is `make examples`");
+    commands
 }
 
 /// What `make examples` does, but for the library, which is there.
