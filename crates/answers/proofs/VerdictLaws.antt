@@ -14,10 +14,24 @@ use Rattle.lists.specs.Lists.{All, joinBelow}
 use Rattle.lists.specs.Below.{firstBelow}
 use Rattle.lists.proofs.BelowLaws.{first-passes, first-least}
 use Rattle.lists.proofs.FillLaws.{put-front-fits, put-front-length}
-use Rattle.answers.specs.Causes.{Cause, _gives_, only, FirstCause, NoCause, Answers}
-use Rattle.answers.specs.Verdicts.{Verdict, goOn, refusedWith, _andThen_, passed, along, firstOf, firstIn, answerOf, outputAfter}
+use Rattle.answers.specs.Numbers.{sixNumbers}
+use Rattle.answers.specs.Causes.{Cause, _gives_, only, roomCauses, FirstCause, NoCause, Answers}
+use Rattle.answers.specs.Verdicts.{
+  Verdict,
+  goOn,
+  refusedWith,
+  _andThen_,
+  passed,
+  passIf,
+  roomVerdict,
+  along,
+  firstOf,
+  firstIn,
+  answerOf,
+  outputAfter,
+}
 use Rattle.answers.specs.declared.Answer.{Answer}
-use Rattle.answers.proofs.DecideLaws.{Decides}
+use Rattle.answers.proofs.DecideLaws.{Decides, ltb-decides}
 use Rattle.answers.proofs.CauseLaws.{none-append, none-first, first-left, first-right, only-none, only-out, only-first}
 
 -- ---- one after the other
@@ -198,6 +212,15 @@ module _ {A : Type 0} {Good : A → Type 0} where
   -- where it goes on, no cause applies
   pub on-none : {causes : List Cause} {v : Verdict A} {x : A} → v ≡ goOn x → Decided Good causes v → Good x × NoCause causes
   on-none {causes} e d = subst (Decided Good causes) e d .by
+
+-- one test, and the room of an output
+pub decided-pass : (test : Bool) {P : Type 0} {a : Answer} → Decides test P → Decided Anything (P gives a ∷ []) (passIf (not test) a)
+decided-pass true d = record { by = inl (d .sound tt, refl) }
+decided-pass false d = record { by = (tt, (d .complete, tt)) }
+
+pub room-decided : (needed : ℕ) (output : List ℕ) → Decided Anything (roomCauses needed output) (roomVerdict needed (length output))
+unfolding roomVerdict
+room-decided needed output = decided-test (λ x. x) (refusedWith (sixNumbers 21 3 needed)) passed (ltb-decides (length output) needed) refl (decided-none tt)
 
 -- something else is known of what was found
 pub decided-as : {A : Type 0} {Good Fine : A → Type 0} {causes : List Cause} (v : Verdict A)

@@ -2,8 +2,9 @@
 use Prim.Native.Nat.{ℕ, zero, suc}
 use mathlib.Core.Bool.{Bool, cond}
 use mathlib.Core.List.{List, [], _∷_}
+use lib.Dec.{ltb}
 use Rattle.lists.specs.Lists.{putFront}
-use Rattle.answers.specs.Numbers.{blank}
+use Rattle.answers.specs.Numbers.{sixNumbers, blank}
 use Rattle.answers.specs.declared.Answer.{Answer}
 use Rattle.answers.specs.declared.Checked.{Checked}
 use Rattle.answers.specs.declared.Checked.the-variants.{Passed, Refused}
@@ -26,6 +27,10 @@ passed = goOn tt
 -- That, where the test holds, and the refusal where it does not.
 abbrev pub passIf : Bool → Answer → Verdict (Unit {0})
 passIf test answer = cond test passed (refusedWith answer)
+
+-- 21 where an output has fewer bytes than are needed.
+unfoldable pub roomVerdict : (needed room : ℕ) → Verdict (Unit {0})
+roomVerdict needed room = cond (ltb room needed) (refusedWith (sixNumbers 21 3 needed)) passed
 
 -- The code's enum for a verdict that finds nothing.
 abbrev pub asChecked : Verdict (Unit {0}) → Checked

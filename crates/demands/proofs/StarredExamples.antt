@@ -46,7 +46,7 @@ use Rattle.certificate_reader.specs.CertificateReading.{certificateSizesFit, wi
 use Rattle.certificate_reader.specs.CertificateReading as certificates
 use Rattle.certificates.specs.CertificateModel.{AreBytes, relatedIn, viewOf, ranksOf}
 use Rattle.outcomes.specs.Obligation.{outcomeAfter2a, isApart, obligationAt}
-use Rattle.answers.specs.Verdicts.{along, firstOf}
+use Rattle.answers.specs.Verdicts.{roomVerdict, along, firstOf}
 use Rattle.answers.specs.declared.Answer.{Answer}
 use Rattle.starts.specs.StartsNamed.{startsNamed}
 use Rattle.obligations.specs.Judging.{pairChecks, checksBy, checks, checkVerdict}
@@ -54,7 +54,7 @@ use Rattle.starts.specs.StartsVerdict.{unpaired, unpairedVerdict, startsVerdict
 use Rattle.files.specs.File.{certificateHeader, certificateFile}
 use Rattle.examination.specs.Examine.{examined, makerVerdict, verdictBy, mayKeep, endlessAt, firstChain, endless}
 use Rattle.inputs.specs.Inputs.{readVerdict}
-use Rattle.ranking.specs.Make.{roomVerdict, fileFor, madeVerdict, makeVerdict, makeAnswer, makeOutput}
+use Rattle.ranking.specs.Make.{fileFor, madeVerdict, makeVerdict, makeAnswer, makeOutput}
 use Rattle.checker.specs.Judge.{pairsIn, judged, judgedBytes, judgeVerdict, judgeAnswer}
 use Rattle.demands.specs.Demand2.{WellFormedInputs}
 use Rattle.lister.specs.Listing.{checkLines, listing, listingOf}

@@ -9,7 +9,20 @@ use native.Mathlib.Numerals.{add-one}
 use native.Mathlib.Omega.{arith}
 use native.Mathlib.Decide.{ℕ-discrete, decLe}
 use lib.Arith.{digits-lt}
-use lib.ListN.{length, take, drop, getD, set, length-append, length-drop, length-set, drop-of-length-le, List·getD-append, List·getD-eq-default}
+use lib.ListN.{
+  length,
+  take,
+  drop,
+  getD,
+  set,
+  length-append,
+  length-drop,
+  length-set,
+  take-append-drop,
+  drop-of-length-le,
+  List·getD-append,
+  List·getD-eq-default,
+}
 use lib.Seq.{
   getD-set-same,
   getD-set-other,
@@ -18,8 +31,10 @@ use lib.Seq.{
   ext-getD,
   set-at,
   drop-cons,
+  length-take-le,
   take-at,
   drop-at,
+  drop-drop,
   drop-length,
   take-nil,
   take-all,
@@ -28,7 +43,7 @@ use lib.Seq.{
 }
 use borrow.Author.Tests.{le-leb, lt-leb}
 use borrow.Rule.Slice.PartMut.{putMid, midOf, post-is, mid-len}
-use Rattle.lists.specs.Lists.{tabulate, grid, part, putFront}
+use Rattle.lists.specs.Lists.{tabulate, grid, part, putFront, putAt}
 
 -- ---- a list by index
 
@@ -162,6 +177,41 @@ pub put-front-whole : (p d : List ℕ) → length d ≡ length p → putFront p 
 put-front-whole p d e =
     let h : length d ≤ length p = omega arith in
     put-front-fits p d (omega arith) ∙ ap (λ (x : List ℕ). p ++ x) (drop-of-length-le d h) ∙ append-nil p
+
+-- a list that has room takes what is put from a on, and one that has none stays
+pub put-at-fits : (a : ℕ) (r d : List ℕ) → a + length r ≤ length d → putAt a r d ≡ take a d ++ r ++ drop (a + length r) d
+unfolding putAt
+put-at-fits a r d h = simp (le-leb (a + length r) (length d) h)
+
+pub put-at-short : (a : ℕ) (r d : List ℕ) → length d < a + length r → putAt a r d ≡ d
+unfolding putAt
+put-at-short a r d h = simp (lt-leb (a + length r) (length d) h)
+
+-- what stands before a is a front
+pub front-from : (d : List ℕ) (a : ℕ) → a ≤ length d → Front (take a d) d d a
+front-from d a h = record { eq = sym (take-append-drop a d); front = length-take-le a d h; le = h; len = refl }
+
+-- put where a front ends, it makes the front longer
+pub front-at : {p d l l′ : List ℕ} {a : ℕ} (k : ℕ) (r : List ℕ) → Front p d l a → l′ ≡ putAt a r l → length r ≡ k → a + k ≤ length d
+    → Front (p ++ r) d l′ (a + k)
+front-at {p} {d} {l} {l′} {a} k r w q h b =
+    let i : take a l ≡ p = ap (take a) (w .eq) ∙ take-at p (drop a d) a (w .front) in
+    let j : drop (a + k) l ≡ drop (a + k) d =
+    sym (drop-drop k a l) ∙ ap (drop k) (ap (drop a) (w .eq) ∙ drop-at p (drop a d) a (w .front)) ∙ drop-drop k a d in
+    let g : l′ ≡ (p ++ r) ++ drop (a + k) d = q ∙ put-at-fits a r l (omega arith) ∙ rw (h, i, j) in
+    let n : length (p ++ r) ≡ a + k = length-append p r ∙ omega arith in
+    record {
+      eq = g;
+      front = n;
+      le = b;
+      len = ap length g ∙ length-append (p ++ r) (drop (a + k) d) ∙ rw (n, length-drop) (omega arith);
+    }
+
+-- what is written after it from a on is put
+pub front-put-at : {d l : List ℕ} {e : ℕ} (a : ℕ) (p : List ℕ) → a ≤ length d → Front (take a d ++ p) d l e → l ≡ putAt a p d
+front-put-at {d} {l} {e} a p h w =
+    let n : a + length p ≡ e = sym (length-append (take a d) p ∙ ap (λ (k : ℕ). k + length p) (length-take-le a d h)) ∙ w .front in
+    w .eq ∙ ap (λ (k : ℕ). take a d ++ p ++ drop k d) (sym n) ∙ sym (put-at-fits a p d (omega arith))
 
 -- a front that is written, part after part or by index, is put
 pub front-put : {p d l : List ℕ} {a : ℕ} → Front p d l a → l ≡ putFront p d

@@ -2,6 +2,7 @@
 pub mod BoolLaws
 pub mod BelowLaws
 pub mod RisingLaws
+pub mod KeptLaws
 pub mod NumberLaws
 pub mod FillLaws
 pub mod JoinLaws

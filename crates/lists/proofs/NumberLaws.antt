@@ -1,16 +1,18 @@
--- Laws of numbers in bytes: one byte more, how large they are, and that what is written is read back. Assumes nothing.
+-- Laws of numbers in bytes: one byte more, how large they are, that what is written is read back, and loops that put numbers one after the other.
+-- Assumes nothing.
 use Prim.Native.Nat.{ℕ, zero, suc, _+_, _*_, _^_, _/_, _%_, _≤_, _<_}
 use mathlib.Core.Path.{_≡_, refl, sym, ap, ap₂, _∙_}
-use mathlib.Core.List.{List, [], _∷_, _++_, flatMap}
-use native.Mathlib.Nat.{pow-suc, pow-le-pow-right, lt-of-lt-of-le, zero-lt-suc, div-add-mod', div-lt-iff-lt-mul, add-assoc}
+use mathlib.Core.List.{List, [], _∷_, _++_, flatMap, append-assoc, append-nil}
+use native.Mathlib.Nat.{pow-suc, pow-le-pow-right, lt-of-lt-of-le, zero-lt-suc, div-add-mod', div-lt-iff-lt-mul, add-assoc, zero-add}
 use native.Mathlib.Numerals.{add-one}
 use native.Mathlib.Omega.{arith}
 use lib.Arith.{digits-lt, lt-one}
-use lib.ListN.{length, getD, length-append, List·getD-append}
-use lib.Seq.{getD-at}
+use lib.ListN.{length, take, drop, getD, length-append, List·getD-append}
+use lib.Seq.{length-take-le, getD-at, getD-append-add}
+use Rattle.lists.specs.Lists.{putAt}
 use Rattle.lists.specs.Numbers.{byteAt, bigEndian, bigBytes}
-use Rattle.lists.proofs.FillLaws.{getD-past}
-use Rattle.lists.proofs.FlatLaws.{flat-at}
+use Rattle.lists.proofs.FillLaws.{Front, getD-past, front-from, front-at, front-put-at, put-at-fits}
+use Rattle.lists.proofs.FlatLaws.{flat-append, flat-length, flat-at}
 
 pub big-more : (s : List ℕ) (at i : ℕ) → bigEndian s at (i + 1) ≡ bigEndian s at i * 256 + byteAt s (at + i)
 unfolding bigEndian
@@ -65,3 +67,61 @@ bytes-back k x l h =
         ∙ alone k (x / 256) (div-lt-iff-lt-mul (zero-lt-suc 255) .1 (rw pow-suc at h)))
         (getD-at (bigBytes k (x / 256)) (x % 256) [] 0 (0 + k) (length-bytes k (x / 256) ∙ omega arith))
         ∙ div-add-mod' x 256
+
+-- a number that is put over some bytes is read back from there
+pub put-back : (at k x : ℕ) (l : List ℕ) → at + k ≤ length l → x < 256 ^ k → bigEndian (putAt at (bigBytes k x) l) at k ≡ x
+put-back at k x l h b =
+    let rest = drop (at + length (bigBytes k x)) l in
+    let front : length (take at l) ≡ at = length-take-le at l (omega arith) in
+    let whole : putAt at (bigBytes k x) l ≡ take at l ++ (bigBytes k x ++ rest) =
+    put-at-fits at (bigBytes k x) l (rw (length-bytes k x) h) ∙ append-assoc (take at l) (bigBytes k x) rest in
+    big-cong (putAt at (bigBytes k x) l) (bigBytes k x ++ rest) at 0 k
+    (λ i c. rw (whole, zero-add) (ap (λ (n : ℕ). byteAt (take at l ++ (bigBytes k x ++ rest)) (n + i)) (sym front)
+    ∙ getD-append-add (take at l) (bigBytes k x ++ rest) i 0))
+    ∙ bytes-back k x rest b
+
+-- put where a front ends, it makes the front longer by k bytes
+pub front-number : {p d l l′ : List ℕ} {a : ℕ} (k x : ℕ) → Front p d l a → l′ ≡ putAt a (bigBytes k x) l → a + k ≤ length d
+    → Front (p ++ bigBytes k x) d l′ (a + k)
+front-number k x w q h = front-at k (bigBytes k x) w q (length-bytes k x) h
+
+-- ---- a loop that puts numbers, k bytes each, over d from `at` on: after xs, up to `place`, the list is l
+
+pub record Numbers (k : ℕ) (xs d l : List ℕ) (at place : ℕ) : Type 0 where
+  pub front : Front (take at d ++ flatMap (bigBytes k) xs) d l place
+  pub inside : at ≤ length d
+
+pub numbers-none : (k : ℕ) (d : List ℕ) (at : ℕ) → at ≤ length d → Numbers k [] d d at at
+unfolding flatMap
+numbers-none k d at h = record { front = rw (append-nil (take at d)) (front-from d at h); inside = h }
+
+module _ {k : ℕ} {xs d l : List ℕ} {at place : ℕ} (w : Numbers k xs d l at place) where
+  pub numbers-place : place ≡ at + k * length xs
+  numbers-place =
+      sym (w .front .front) ∙ length-append (take at d) (flatMap (bigBytes k) xs)
+      ∙ ap₂ _+_ (length-take-le at d (w .inside)) (flat-length k (bigBytes k) (length-bytes k) xs)
+
+  -- more of them are put where these end
+  pub numbers-join : {e : ℕ} {l′ : List ℕ} (ys : List ℕ) → l′ ≡ putAt place (flatMap (bigBytes k) ys) l → e ≡ place + k * length ys → e ≤ length d
+      → Numbers k (xs ++ ys) d l′ at e
+  numbers-join {e} {l′} ys q n room =
+      let bytes = flatMap (bigBytes k) ys in
+      let more : Front (take at d ++ flatMap (bigBytes k) xs ++ bytes) d l′ (place + k * length ys) =
+      front-at (k * length ys) bytes (w .front) q (flat-length k (bigBytes k) (length-bytes k) ys) (omega arith) in
+      record {
+        front = rw (n, flat-append (bigBytes k) xs ys, ← append-assoc (take at d) (flatMap (bigBytes k) xs) bytes) more;
+        inside = w .inside;
+      }
+
+  -- one more
+  pub numbers-more : (x : ℕ) → place + k ≤ length d → Numbers k (xs ++ (x ∷ [])) d (putAt place (bigBytes k x) l) at (place + k)
+  unfolding flatMap
+  numbers-more x room =
+      numbers-join (x ∷ []) (ap (λ (r : List ℕ). putAt place r l) (sym (append-nil (bigBytes k x)))) (omega arith) room
+
+  -- they are put
+  pub numbers-put : l ≡ putAt at (flatMap (bigBytes k) xs) d
+  numbers-put = front-put-at at (flatMap (bigBytes k) xs) (w .inside) (w .front)
+
+  pub numbers-length : length l ≡ length d
+  numbers-length = w .front .len

@@ -1,11 +1,13 @@
--- Lists: what holds of every element and of how many, lists joined and filled by index, parts, and a front written over a list.
-use Prim.Native.Nat.{ℕ, zero, suc, _-_}
+-- Lists: what holds of every element and of how many, what stands in them, lists joined, filled by index and chosen by a test, parts, and what is written over
+-- a list.
+use Prim.Native.Nat.{ℕ, zero, suc, _+_, _-_, _<_}
 use mathlib.Core.Path.{_≡_}
 use mathlib.Core.Logic.{_⊎_}
-use mathlib.Core.Bool.{cond}
+use mathlib.Core.Bool.{Bool, cond}
 use mathlib.Core.List.{List, [], _∷_, _++_}
-use lib.Dec.{leb}
-use lib.ListN.{length, take, drop}
+use lib.Dec.{leb, eqb}
+use lib.ListN.{length, take, drop, getD}
+use Rattle.lists.specs.Below.{anyBelow}
 
 -- Every element of the list has the property.
 abbrev pub All {ℓ} : {A : Type ℓ} → (A → Type 0) → List A → Type 0
@@ -23,6 +25,18 @@ Beside R (x ∷ xs) (y ∷ ys) = R x y × Beside R xs ys
 abbrev pub Counts : {A : Type 0} → (A → Type 0) → List A → ℕ → Type 0
 Counts P [] n = n ≡ 0
 Counts P (x ∷ xs) n = (P x × ((m : ℕ) × (n ≡ suc m) × Counts P xs m)) ⊎ ((¬ P x) × Counts P xs n)
+
+-- The number x stands in the list. As a test, and as a statement.
+unfoldable pub standsIn : List ℕ → ℕ → Bool
+standsIn l x = anyBelow (length l) (λ i. eqb (getD l i 0) x)
+
+abbrev pub StandsIn : List ℕ → ℕ → Type 0
+StandsIn l x = (i : ℕ) × (i < length l) × (getD l i 0 ≡ x)
+
+-- The numbers below the bound that pass the test, from the smallest on.
+unfoldable pub keptBelow : ℕ → (ℕ → Bool) → List ℕ
+keptBelow zero f = []
+keptBelow (suc n) f = keptBelow n f ++ cond (f n) (n ∷ []) []
 
 -- The lists of the indices below the bound, one after the other.
 unfoldable pub joinBelow {ℓ} : {A : Type ℓ} → ℕ → (ℕ → List A) → List A
@@ -46,3 +60,7 @@ part l a e = take (e - a) (drop a l)
 -- The list with `front` written over its first elements; a list that is too short stays as it is.
 unfoldable pub putFront : List ℕ → List ℕ → List ℕ
 putFront front l = cond (leb (length front) (length l)) (front ++ drop (length front) l) l
+
+-- The list with `new` written over its elements from index `at` on; a list that is too short for it stays as it is.
+unfoldable pub putAt : ℕ → List ℕ → List ℕ → List ℕ
+putAt at new l = cond (leb (at + length new) (length l)) (take at l ++ new ++ drop (at + length new) l) l

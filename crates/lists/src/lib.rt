@@ -1,8 +1,8 @@
-// Total reads of bytes, of numbers in bytes and of parts, for every slice and every index; and a front written over a slice.
+// Total reads of bytes, of numbers in bytes and of parts, for every slice and every index; and a front or a number written over a slice.
 ghost use mathlib.Core.Path.{_≡_};
 ghost use Prim.Native.Nat.{_+_, _^_, _≤_, _<_, min};
-ghost use Rattle.lists.specs.Lists.{part, putFront};
-ghost use Rattle.lists.specs.Numbers.{byteAt, bigEndian};
+ghost use Rattle.lists.specs.Lists.{part, putFront, putAt};
+ghost use Rattle.lists.specs.Numbers.{byteAt, bigEndian, bigBytes};
 
 // A byte as a usize.
 fn wide(b: u8) -> usize
@@ -101,5 +101,24 @@ pub fn put_front(front: &[u8], output: &mut [u8])
     while i < front.len() {
         output[i] = front[i];
         i += 1;
+    }
+}
+
+// Writes the number over the k bytes of the output from at on, the high byte first; an output that is too short stays as it is.
+pub fn put_be(output: &mut [u8], at: usize, k: usize, number: u64)
+    ensures { λ _. ⌜ now (output .exit) ≡ putAt at (bigBytes k number) (now (output .entry)) ⌝ }
+{
+    if output.len() < at {
+        return;
+    }
+    if output.len() - at < k {
+        return;
+    }
+    let mut x = number;
+    let mut i: usize = k;
+    while 0 < i {
+        i -= 1;
+        output[at + i] = (x % 256) as u8;
+        x /= 256;
     }
 }

@@ -17,7 +17,7 @@ use Rattle.answers.specs.declared.Answer.{Answer}
 use Rattle.answers.proofs.CauseLaws.{numbered-append}
 use Rattle.answers.proofs.DecideLaws.{Decides, decides-as, test-decides, ltb-decides, leb-decides, eqb-decides}
 use Rattle.answers.proofs.DecideLaws.{not-decides, and-decides, or-decides, any-decides}
-use Rattle.answers.proofs.VerdictLaws.{Decided, Anything, decided-none, decided-then}
+use Rattle.answers.proofs.VerdictLaws.{Decided, decided-none, decided-pass, decided-then}
 use Rattle.checker.specs.Judge.{judgeVerdict}
 use Rattle.checker.specs.JudgeCauses.{judgeCauses, judgeNumber}
 use Rattle.checker.proofs.JudgeCauseLaws.{judge-decided, judge-numbers}
@@ -63,20 +63,15 @@ room-decides written given states blocks = or-decides (ltb-decides (length state
 
 -- ---- the verdict
 
--- one test
-test-decided : (test : Bool) {P : Type 0} {a : Answer} → Decides test P → Decided Anything (P gives a ∷ []) (passIf (not test) a)
-test-decided true d = record { by = inl (d .sound tt, refl) }
-test-decided false d = record { by = (tt, (d .complete, tt)) }
-
 match-decided : (v : View) (r : Ranks) (side start : ℕ) (path states blocks : List ℕ)
     → Decided (λ n. n ≡ length (matchedAlong v r path start)) (matchCauses v r side start path states blocks)
     (matchVerdict v r side start path states blocks)
 unfolding matchVerdict
 match-decided v r side start path states blocks =
-    decided-then (passIf (not (wrongPath side (v .own) path)) _) (test-decided (wrongPath side (v .own) path) (path-decides side (v .own) path)) λ x g n.
-    decided-then (passIf (not (wrongStart v path start)) _) (test-decided (wrongStart v path start) (start-decides v path start)) λ y h m.
+    decided-then (passIf (not (wrongPath side (v .own) path)) _) (decided-pass (wrongPath side (v .own) path) (path-decides side (v .own) path)) λ x g n.
+    decided-then (passIf (not (wrongStart v path start)) _) (decided-pass (wrongStart v path start) (start-decides v path start)) λ y h m.
     decided-then (passIf (not (noRoom (length (matchedAlong v r path start)) (length path) states blocks)) _)
-    (test-decided (noRoom (length (matchedAlong v r path start)) (length path) states blocks)
+    (decided-pass (noRoom (length (matchedAlong v r path start)) (length path) states blocks)
     (room-decides (length (matchedAlong v r path start)) (length path) states blocks)) λ z k o. decided-none refl
 
 module _ (left right c : List ℕ) (side start : ℕ) (path states blocks : List ℕ) where

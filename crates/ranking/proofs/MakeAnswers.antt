@@ -5,12 +5,12 @@ use mathlib.Core.List.{List}
 use lib.ListN.{length}
 use borrow.Author.Tests.{lt-ltb, le-ltb}
 use Rattle.answers.specs.Numbers.{sixNumbers}
-use Rattle.answers.specs.Verdicts.{Verdict, goOn, refusedWith, outputAfter}
+use Rattle.answers.specs.Verdicts.{Verdict, goOn, refusedWith, roomVerdict, outputAfter}
 use Rattle.answers.specs.declared.Answer.{Answer}
 use Rattle.certificates.specs.Layout.{sizesOf, certificateLength}
 use Rattle.inputs.specs.declared.Heads.{Heads}
 use Rattle.inputs.specs.Inputs.{readVerdict}
-use Rattle.ranking.specs.Make.{roomVerdict, madeVerdict, makeVerdict, fileFor, answerAfter, makeAnswer, makeOutput}
+use Rattle.ranking.specs.Make.{madeVerdict, makeVerdict, fileFor, answerAfter, makeAnswer, makeOutput}
 
 module _ (left right relation output : List ℕ) where
   -- the answer and the output are those of the verdict

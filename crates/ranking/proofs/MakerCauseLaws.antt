@@ -3,12 +3,10 @@ use Prim.Native.Nat.{ℕ}
 use mathlib.Core.Path.{_≡_, refl, sym, _∙_, subst}
 use mathlib.Core.List.{List, _++_}
 use lib.ListN.{length}
-use Rattle.answers.specs.Numbers.{sixNumbers}
-use Rattle.answers.specs.Causes.{Cause, Numbered}
-use Rattle.answers.specs.Verdicts.{Verdict, refusedWith, _andThen_, passed}
+use Rattle.answers.specs.Causes.{Cause, roomCauses, Numbered}
+use Rattle.answers.specs.Verdicts.{Verdict, _andThen_, roomVerdict}
 use Rattle.answers.proofs.CauseLaws.{numbered-append}
-use Rattle.answers.proofs.DecideLaws.{ltb-decides}
-use Rattle.answers.proofs.VerdictLaws.{Decided, Anything, decided-none, decided-test, decided-then, then-cong, then-then}
+use Rattle.answers.proofs.VerdictLaws.{Decided, Anything, room-decided, decided-then, then-cong, then-then}
 use Rattle.table_reader.specs.TableReading.{readTable}
 use Rattle.table_reader.specs.TableVerdicts.{tableVerdict}
 use Rattle.table_reader.specs.TableCauses.{tableCauses}
@@ -23,13 +21,9 @@ use Rattle.starts.specs.StartsNamed.{startsNamed}
 use Rattle.examination.specs.ExaminationCauses.{examinationCauses}
 use Rattle.examination.proofs.ExamineLaws.{examined-decided, examination-numbers}
 use Rattle.inputs.specs.Inputs.{InputsRead, readVerdict}
-use Rattle.ranking.specs.Make.{roomVerdict, madeVerdict, makeVerdict}
-use Rattle.ranking.specs.MakerCauses.{roomCauses, makerCauses, makerNumber}
+use Rattle.ranking.specs.Make.{madeVerdict, makeVerdict}
+use Rattle.ranking.specs.MakerCauses.{makerCauses, makerNumber}
 use Rattle.ranking.proofs.MakeSidesLaws.{formed}
-
-room-decided : (L : ℕ) (output : List ℕ) → Decided Anything (roomCauses L output) (roomVerdict L (length output))
-unfolding roomVerdict
-room-decided L output = decided-test (λ x. x) (refusedWith (sixNumbers 21 3 L)) passed (ltb-decides (length output) L) refl (decided-none tt)
 
 module _ (left right relation output : List ℕ) where
   -- the room and the examination, after a reading

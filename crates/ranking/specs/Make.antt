@@ -2,13 +2,11 @@
 -- right table's, 20, 15, 21, 16, 17 and 22 in judging order, and 23; or the length L. Where it succeeds the file stands at the front of the
 -- output and the bytes after L stay; otherwise the output is as it was.
 use Prim.Native.Nat.{ℕ}
-use mathlib.Core.Bool.{cond}
 use mathlib.Core.List.{List}
-use lib.Dec.{ltb}
 use lib.ListN.{length}
 use Rattle.bisimulation.specs.Maker.{made}
 use Rattle.answers.specs.Numbers.{sixNumbers}
-use Rattle.answers.specs.Verdicts.{Verdict, refusedWith, _andThen_, passed, answerOf, outputAfter}
+use Rattle.answers.specs.Verdicts.{Verdict, _andThen_, roomVerdict, answerOf, outputAfter}
 use Rattle.answers.specs.declared.Answer.{Answer}
 use Rattle.certificates.specs.Layout.{sizesOf, certificateLength}
 use Rattle.certificates.specs.CertificateModel.{viewOf}
@@ -16,10 +14,6 @@ use Rattle.starts.specs.StartsNamed.{startsNamed}
 use Rattle.inputs.specs.Inputs.{readVerdict}
 use Rattle.files.specs.File.{certificateFile}
 use Rattle.examination.specs.Examine.{examined}
-
--- 21 where the output has fewer than L bytes.
-unfoldable pub roomVerdict : ℕ → ℕ → Verdict (Unit {0})
-roomVerdict L room = cond (ltb room L) (refusedWith (sixNumbers 21 3 L)) passed
 
 -- The verdict where all is read and there is room, and the verdict on whatever is given.
 unfoldable pub madeVerdict : List ℕ → List ℕ → List ℕ → Verdict (Unit {0})

@@ -1,22 +1,16 @@
 -- The causes that turn a relation away from the maker, in document 01's order: left table, right table (1 to 9, or 24 in place of
 -- 9), 20, 15, 21, 16, then pairs and steps in judging order for 17 and 22, then 23, left side first.
-use Prim.Native.Nat.{ℕ, _<_}
+use Prim.Native.Nat.{ℕ}
 use mathlib.Core.Bool.{Bool, _&&_, _||_}
-use mathlib.Core.List.{List, [], _∷_, _++_}
+use mathlib.Core.List.{List, _++_}
 use lib.Dec.{leb, eqb}
-use lib.ListN.{length}
-use Rattle.answers.specs.Numbers.{sixNumbers}
-use Rattle.answers.specs.Causes.{Cause, _gives_}
+use Rattle.answers.specs.Causes.{Cause, roomCauses}
 use Rattle.table_reader.specs.TableCauses.{tableCauses, tableNumber}
 use Rattle.certificates.specs.Layout.{sizesOf, certificateLength}
 use Rattle.certificates.specs.CertificateModel.{viewOf}
 use Rattle.certificate_reader.specs.CertificateCauses.{relationCauses}
 use Rattle.starts.specs.StartsNamed.{startsNamed}
 use Rattle.examination.specs.ExaminationCauses.{examinationCauses}
-
--- 21: the output is under L bytes.
-abbrev pub roomCauses : ℕ → List ℕ → List Cause
-roomCauses L output = (length output < L) gives sixNumbers 21 3 L ∷ []
 
 abbrev pub makerCauses : (left right relation output : List ℕ) → List Cause
 makerCauses left right relation output =

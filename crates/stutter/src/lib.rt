@@ -1,9 +1,11 @@
 // The C interface, as include/stutter.h has it: a slice is a pointer and a length.
 use answers::Answer;
+use words::Row;
 ghost use mathlib.Core.Path.{_≡_};
 ghost use Rattle.checker.specs.Judge.{judgeAnswer};
 ghost use Rattle.ranking.specs.Make.{makeAnswer, makeOutput};
 ghost use Rattle.path_matcher.specs.Following.{followAnswer, followStates, followBlocks};
+ghost use Rattle.table_writer.specs.Writing.{writeAnswer, writeOutput};
 ghost use Rattle.stutter.specs.Interface.{hasRoom, answered, whereRoom};
 
 // The places that an answer takes.
@@ -108,5 +110,29 @@ pub extern "C" fn stutter_follow(
         states,
         blocks,
     );
+    put_numbers(numbers, answer)
+}
+
+// Writes a table of version 4 at the front of `output`: with these marks, one for each state, this start word, and these steps, from in the high byte and to in
+// the low one, in rising order. The six numbers go to the first six places of `answer`; where it has fewer, nothing is written, neither to it nor to `output`,
+// and false is returned.
+#[no_mangle]
+pub extern "C" fn stutter_write(
+    marks: &[u32],
+    starts: u64,
+    steps: &[u16],
+    output: &mut [u8],
+    answer: &mut [u64],
+) -> bool
+    ensures room { λ r. ⌜ r ≡ hasRoom (now (answer .entry)) ⌝ }
+    ensures put { λ r. ⌜ now (answer .exit)
+        ≡ answered (writeAnswer (now (marks .entry)) starts (now (steps .entry)) (now (output .entry))) (now (answer .entry)) ⌝ }
+    ensures written { λ r. ⌜ now (output .exit)
+        ≡ whereRoom (now (answer .entry)) (writeOutput (now (marks .entry)) starts (now (steps .entry)) (now (output .entry))) (now (output .entry)) ⌝ }
+{
+    if answer.len() < PLACES {
+        return false;
+    }
+    let numbers = table_writer::write(marks, Row(starts), steps, output);
     put_numbers(numbers, answer)
 }

@@ -27,7 +27,7 @@ use Rattle.answers.proofs.VerdictLaws.{
   on-none,
 }
 use Rattle.tables.specs.declared.Head.{Head}
-use Rattle.tables.specs.Table.{layoutIn, statesOf, startOf, startWord, stepsOf, tableLength, formatIn, stepsPart}
+use Rattle.tables.specs.Table.{layoutIn, statesOf, startOf, startsOf, startWord, stepsOf, tableLength, formatIn, stepsPart}
 use Rattle.refusals.specs.declared.TableRefusal.the-variants.{
   Short,
   Magic,
@@ -83,9 +83,9 @@ module _ (file : ℕ) (s : List ℕ) where
       (decided-test on (Refused Magic) _ (not-decides (magic-decides 0x54 s)) refl
       (decided-test on (Refused Version) _ (not-decides (version-decides s)) refl
       (decided-test on (Refused Short) _ (ltb-decides (length s) (layoutIn s .header)) refl
-      (decided-test on (Refused States) _ (not-decides (states-decides s)) refl
+      (decided-test on (Refused States) _ (not-decides (states-decides (statesOf s))) refl
       (decided-test on (Refused Start) _ (and-decides (not-decides (test-decides (startWord s))) (leb-decides (statesOf s) (startOf s))) refl
-      (decided-test on (Refused Starts) _ (and-decides (test-decides (startWord s)) (starts-decides s)) refl
+      (decided-test on (Refused Starts) _ (and-decides (test-decides (startWord s)) (starts-decides (startsOf s) (statesOf s))) refl
       (decided-test on (Refused Steps) _ (ltb-decides 256 (stepsOf s)) refl
       (decided-test on (Refused Length) _ (not-decides (eqb-decides (length s) (tableLength s))) refl
       (decided-none refl)))))))))

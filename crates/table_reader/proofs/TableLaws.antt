@@ -43,7 +43,7 @@ pub record HeadOk (s : List ℕ) (h : Head) : Type 0 where
   pub states-pos : 1 ≤ statesOf s
   pub states-le : statesOf s ≤ 64
   pub start-lt : startWord s ≡ false → startOf s < statesOf s
-  pub starts-fit : StartWord s → ¬ WrongStarts s
+  pub starts-fit : StartWord s → ¬ WrongStarts (startsOf s) (statesOf s)
   pub steps-le : stepsOf s ≤ 256
   pub long : length s ≡ tableLength s
 
@@ -51,7 +51,7 @@ pub record HeadOk (s : List ℕ) (h : Head) : Type 0 where
 pub head-ok : (s : List ℕ) {h : Head} → h ≡ headOf s → NoCause (headerCauses 0 s) → HeadOk s h
 head-ok s {h} e n =
     let none = none-at (headerCauses 0 s) n in
-    let limits = decides-stable (states-decides s) (none 4) in
+    let limits = decides-stable (states-decides (statesOf s)) (none 4) in
     let start : (¬ StartWord s) × (statesOf s ≤ startOf s) → ⊥ = none 5 in
     let steps : 256 < stepsOf s → ⊥ = none 7 in
     record {

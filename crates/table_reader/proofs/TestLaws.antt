@@ -8,11 +8,11 @@ use Rattle.lists.specs.Below.{firstBelow}
 use Rattle.words.specs.Bits.{hasBit, hasFrom, HasFrom}
 use Rattle.lists.proofs.BelowLaws.{first-least}
 use Rattle.tables.specs.declared.Format.{Format}
-use Rattle.tables.specs.Table.{lastVersion, magicFits, versionOf, formatIn, statesOf, startsOf, stepsPart, fromOf, toOf}
+use Rattle.tables.specs.Table.{lastVersion, magicFits, versionOf, formatIn, stepsPart, fromOf, toOf}
 use Rattle.table_reader.specs.TableReading.{versionFits, statesFit, wrongStarts}
 use Rattle.table_reader.specs.TableReading.{endsOutside, sameStep, doubled, greater, notGreater}
 use Rattle.table_reader.specs.EndsSeen.{EndsBelow}
-use Rattle.table_reader.specs.TableCauses.{MagicFits, WrongStarts, NotGreater}
+use Rattle.table_reader.specs.TableCauses.{MagicFits, StatesFit, WrongStarts, NotGreater}
 use Rattle.answers.proofs.DecideLaws.{
   Decides,
   decides-as,
@@ -36,9 +36,9 @@ pub version-decides : (s : List ℕ) → Decides (versionFits s) ((1 ≤ version
 unfolding versionFits
 version-decides s = and-decides (leb-decides _ _) (leb-decides _ _)
 
-pub states-decides : (s : List ℕ) → Decides (statesFit s) ((1 ≤ statesOf s) × (statesOf s ≤ 64))
+pub states-decides : (n : ℕ) → Decides (statesFit n) (StatesFit n)
 unfolding statesFit
-states-decides s = and-decides (leb-decides _ _) (leb-decides _ _)
+states-decides n = and-decides (leb-decides _ _) (leb-decides _ _)
 
 -- a bit n or more of a word
 pub from-decides : (x n : ℕ) → Decides (hasFrom x n) (HasFrom x n)
@@ -47,9 +47,9 @@ from-decides x n =
     decides-as (any-decides 64 (λ t. and-decides (leb-decides n t) (test-decides (hasBit x t))))
     (λ r. (r .0, r .1, r .2 .0, r .2 .1)) (λ r. (r .0, r .1, (r .2, r .3)))
 
-pub starts-decides : (s : List ℕ) → Decides (wrongStarts s) (WrongStarts s)
+pub starts-decides : (word n : ℕ) → Decides (wrongStarts word n) (WrongStarts word n)
 unfolding wrongStarts
-starts-decides s = or-decides (eqb-decides (startsOf s) 0) (from-decides (startsOf s) (statesOf s))
+starts-decides word n = or-decides (eqb-decides word 0) (from-decides word n)
 
 module _ (f : Format) (steps : List ℕ) where
   pub outside-decides : (n j : ℕ) → Decides (endsOutside f steps n j) ((n ≤ fromOf f steps j) ⊎ (n ≤ toOf f steps j))

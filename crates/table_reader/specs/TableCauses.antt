@@ -39,9 +39,13 @@ NotGreater s (suc i) = ¬ Greater s (suc i) i
 abbrev pub StartWord : List ℕ → Type 0
 StartWord s = T (startWord s)
 
--- The start word is 0 or has a bit n or more.
-abbrev pub WrongStarts : List ℕ → Type 0
-WrongStarts s = (startsOf s ≡ 0) ⊎ HasFrom (startsOf s) (statesOf s)
+-- n is 1 to 64.
+abbrev pub StatesFit : ℕ → Type 0
+StatesFit n = (1 ≤ n) × (n ≤ 64)
+
+-- The start word of n states is 0 or has a bit n or more.
+abbrev pub WrongStarts : (word n : ℕ) → Type 0
+WrongStarts word n = (word ≡ 0) ⊎ HasFrom word n
 
 -- The causes of the header and the length, in their order.
 abbrev pub headerCauses : ℕ → List ℕ → List Cause
@@ -55,11 +59,11 @@ headerCauses file s =
     -- under the length of its header: 16 bytes with a start word, and 9, tested above, without
     ∷ (length s < layoutIn s .header) gives sixNumbers 1 file 0
     -- n not 1 to 64
-    ∷ (¬ ((1 ≤ statesOf s) × (statesOf s ≤ 64))) gives sixNumbers 4 file 0
+    ∷ (¬ StatesFit (statesOf s)) gives sixNumbers 4 file 0
     -- start n or more
     ∷ ((¬ StartWord s) × (statesOf s ≤ startOf s)) gives sixNumbers 5 file 0
     -- in its place for a start word: the word is 0 or has a bit n or more
-    ∷ (StartWord s × WrongStarts s) gives sixNumbers 28 file 0
+    ∷ (StartWord s × WrongStarts (startsOf s) (statesOf s)) gives sixNumbers 28 file 0
     -- m over 256
     ∷ (256 < stepsOf s) gives sixNumbers 6 file 0
     -- table length

@@ -50,12 +50,12 @@ unfoldable pub versionFits : List ℕ → Bool
 versionFits s = leb 1 (versionOf s) && leb (versionOf s) lastVersion
 
 -- n is 1 to 64.
-unfoldable pub statesFit : List ℕ → Bool
-statesFit s = leb 1 (statesOf s) && leb (statesOf s) maxStates
+unfoldable pub statesFit : ℕ → Bool
+statesFit n = leb 1 n && leb n maxStates
 
--- The start word is 0 or has a bit n or more.
-unfoldable pub wrongStarts : List ℕ → Bool
-wrongStarts s = eqb (startsOf s) 0 || hasFrom (startsOf s) (statesOf s)
+-- The start word of n states is 0 or has a bit n or more.
+unfoldable pub wrongStarts : (word n : ℕ) → Bool
+wrongStarts word n = eqb word 0 || hasFrom word n
 
 module _ (f : Format) (steps : List ℕ) where
   -- An end of step j is n or more.
@@ -94,9 +94,9 @@ readLength s =
 unfoldable pub readSizes : List ℕ → TableRead
 readSizes s =
     cond (ltb (length s) (layoutIn s .header)) (Refused Short)
-    (cond (not (statesFit s)) (Refused States)
+    (cond (not (statesFit (statesOf s))) (Refused States)
     (cond (not (startWord s) && leb (statesOf s) (startOf s)) (Refused Start)
-    (cond (startWord s && wrongStarts s) (Refused Starts)
+    (cond (startWord s && wrongStarts (startsOf s) (statesOf s)) (Refused Starts)
     (readLength s))))
 
 -- Causes 1 to 3, then the others of the header.

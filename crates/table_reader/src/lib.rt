@@ -74,16 +74,14 @@ fn read_length(s: &[u8]) -> TableRead
     TableRead::Good(head_of(s))
 }
 
-// Whether the start word is 0 or has a bit n or more.
-fn starts_wrong(s: &[u8]) -> bool
-    ensures { λ r. ⌜ r ≡ wrongStarts (now (s .entry)) ⌝ }
+// Whether the start word of n states is 0 or has a bit n or more.
+pub fn starts_wrong(word: Row, n: usize) -> bool
+    ensures { λ r. ⌜ r ≡ wrongStarts (word .0) n ⌝ }
 {
-    let n = states(s);
-    let initial = starts(s);
-    if initial.is_empty() {
+    if word.is_empty() {
         return true;
     }
-    initial.has_from(n)
+    word.has_from(n)
 }
 
 // Cause 1 of a header that is longer than 9 bytes, then 4, then 5 of one start and 28 of a start word, then 6 and 7.
@@ -102,7 +100,7 @@ fn read_sizes(s: &[u8]) -> TableRead
         return TableRead::Refused(TableRefusal::States);
     }
     if layout.word {
-        if starts_wrong(s) {
+        if starts_wrong(starts(s), n) {
             return TableRead::Refused(TableRefusal::Starts);
         }
         return read_length(s);

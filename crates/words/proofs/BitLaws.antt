@@ -340,13 +340,6 @@ count-remove x t h b =
     (has-remove x t t h ∙ ap (λ (e : Bool). not e && hasBit x t) (T-true (eqb t t) (eqb-refl t))) (T-true (hasBit x t) b)
     (λ u d. has-remove x t u h ∙ ap (λ (e : Bool). not e && hasBit x u) (ne-eqb u t d))
 
--- ---- words in bytes
-
--- a word that is written is read back
-pub write-read : (l : List ℕ) (x : ℕ) → 8 ≤ length l → x < 2 ^ 64 → bigEndian (putFront (bigBytes 8 x) l) 0 8 ≡ x
-write-read l x h k =
-    ap (λ (s : List ℕ). bigEndian s 0 8) (put-front-fits (bigBytes 8 x) l (rw (length-bytes 8 x) h)) ∙ bytes-back 8 x _ k
-
 -- ---- the code's mask
 
 -- a shift of 1 by less than 64 loses nothing

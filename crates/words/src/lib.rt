@@ -3,7 +3,7 @@ ghost use mathlib.Core.Path.{_≡_};
 ghost use lib.Bits.{bitAnd};
 ghost use lib.Dec.{eqb};
 ghost use Rattle.lists.specs.Numbers.{bigEndian, bigBytes};
-ghost use Rattle.lists.specs.Lists.{putFront};
+ghost use Rattle.lists.specs.Lists.{putAt};
 ghost use Rattle.words.specs.Bits.{hasBit, hasFrom, addBit, removeBit, withoutBits, countBits, firstBit};
 
 // A set of states: state t is in it where the word has the bit of weight 2 to the power t.
@@ -96,19 +96,10 @@ impl Row {
         Row(lists::read_be64(s, at))
     }
 
-    // Writes the set over the first 8 bytes of the output, the high byte first; a shorter output stays as it is.
-    pub fn write(self, output: &mut [u8])
-        ensures { λ _. ⌜ now (output .exit) ≡ putFront (bigBytes 8 (self .0)) (now (output .entry)) ⌝ }
+    // Writes the set over the 8 bytes of the output from at on, the high byte first; an output that is too short stays as it is.
+    pub fn write(self, output: &mut [u8], at: usize)
+        ensures { λ _. ⌜ now (output .exit) ≡ putAt at (bigBytes 8 (self .0)) (now (output .entry)) ⌝ }
     {
-        if output.len() < 8 {
-            return;
-        }
-        let mut x = self.0;
-        let mut i: usize = 8;
-        while 0 < i {
-            i -= 1;
-            output[i] = (x % 256) as u8;
-            x /= 256;
-        }
+        lists::put_be(output, at, 8, self.0);
     }
 }

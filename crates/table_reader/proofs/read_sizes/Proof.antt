@@ -1,6 +1,6 @@
 -- `table_reader::read_sizes` meets its contract: at each return the tests before it give the definition the same way. Assumes nothing.
 use Prim.Native.Nat.{ℕ, _≤_, _<_}
-use mathlib.Core.Path.{_≡_, sym, ap, _∙_}
+use mathlib.Core.Path.{_≡_, sym, ap, ap₂, _∙_}
 use mathlib.Core.Bool.{Bool, true, false, cond, not, _&&_}
 use mathlib.Core.List.{List}
 use native.Mathlib.Omega.{arith}
@@ -9,7 +9,7 @@ use lib.ListN.{length}
 use denote.Ref.{now}
 use borrow.Author.Tests.{lt-ltb, le-ltb, le-leb, lt-leb}
 use Rattle.tables.specs.declared.Layout.{Layout}
-use Rattle.tables.specs.Table.{layoutOf, layoutIn, statesOf, startOf, startWord}
+use Rattle.tables.specs.Table.{layoutOf, layoutIn, statesOf, startOf, startsOf, startWord}
 use Rattle.refusals.specs.declared.TableRefusal.the-variants.{Start, Starts}
 use Rattle.table_reader.specs.declared.TableRead.{TableRead}
 use Rattle.table_reader.specs.declared.TableRead.the-variants.{Refused}
@@ -44,7 +44,9 @@ module _ (c : tie.Else3) where
   file = bytes (c .before .before .before .before .before)
 
   abbrev byStarts : Bool → TableRead
-  byStarts word = cond (not word && leb (statesOf file) (startOf file)) (Refused Start) (cond (word && wrongStarts file) (Refused Starts) (readLength file))
+  byStarts word =
+      cond (not word && leb (statesOf file) (startOf file)) (Refused Start)
+      (cond (word && wrongStarts (startsOf file) (statesOf file)) (Refused Starts) (readLength file))
 
   by-starts : {x : Bool} → layout (c .before .before .before .before .before) .word ≡ x → readSizes file ≡ byStarts x
   unfolding readSizes statesFit startWord
@@ -82,19 +84,28 @@ returns-3 c =
     let s = bytes at in
     rw (long at (c .before .before .before .if1 .left), le-leb 1 (statesOf s) (omega arith), lt-leb (statesOf s) 64 (omega arith))
 
+starts-requires : tie.Need-starts-requires
+starts-requires c κs = search needs
+
 starts-wrong-requires : tie.Need-starts-wrong-requires
 starts-wrong-requires c κs = search needs
 
+-- what the test of the word says of the file's starts and states
+wrong-is : (c : tie.After-starts-wrong) → c .starts-wrong .result ≡ wrongStarts (startsOf (file (c .before .before .before))) (statesOf (file (c .before .before .before)))
+wrong-is c =
+    c .starts-wrong .ensures ∙ ap₂ wrongStarts (c .before .starts .ensures) (c .before .before .before .before .before .states .ensures .0)
+
 returns-4 : tie.Need-returns-4
-returns-4 c = sym (by-starts (c .before .before .before) (c .before .before .if4 .taken) ∙ rw (sym (c .before .starts-wrong .ensures) ∙ c .if5 .taken))
+returns-4 c =
+    sym (by-starts (c .before .before .before .before) (c .before .before .before .if4 .taken) ∙ rw (sym (wrong-is (c .before)) ∙ c .if5 .taken))
 
 read-length-requires : tie.Need-read-length-requires
 read-length-requires c κs = search needs
 
 returns-5 : tie.Need-returns-5
 returns-5 c =
-    let right = sym (c .before .before .starts-wrong .ensures) ∙ c .before .if5 .left in
-    c .read-length .ensures ∙ sym (by-starts (c .before .before .before .before) (c .before .before .before .if4 .taken) ∙ rw right)
+    let right = sym (wrong-is (c .before .before)) ∙ c .before .if5 .left in
+    c .read-length .ensures ∙ sym (by-starts (c .before .before .before .before .before) (c .before .before .before .before .if4 .taken) ∙ rw right)
 
 start-requires : tie.Need-start-requires
 start-requires c κs = search needs
@@ -124,6 +135,7 @@ read-sizes-spec =
     states-requires
     returns-2
     returns-3
+    starts-requires
     starts-wrong-requires
     returns-4
     read-length-requires

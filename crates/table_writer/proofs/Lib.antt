@@ -1,0 +1,5 @@
+-- Laws of the table writer.
+pub mod WriterLaws
+pub mod PuttingLaws
+pub mod FileLaws
+pub mod VerdictLaws

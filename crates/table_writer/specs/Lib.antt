@@ -1,0 +1,4 @@
+pub mod TableFile
+pub mod Writing
+pub mod WriteCauses
+pub mod Words
