@@ -213,10 +213,14 @@ module _ {A : Type 0} {Good : A → Type 0} where
   pub on-none : {causes : List Cause} {v : Verdict A} {x : A} → v ≡ goOn x → Decided Good causes v → Good x × NoCause causes
   on-none {causes} e d = subst (Decided Good causes) e d .by
 
--- one test, and the room of an output
+-- one test: of the cause, and of what the cause fails; and the room of an output
 pub decided-pass : (test : Bool) {P : Type 0} {a : Answer} → Decides test P → Decided Anything (P gives a ∷ []) (passIf (not test) a)
 decided-pass true d = record { by = inl (d .sound tt, refl) }
 decided-pass false d = record { by = (tt, (d .complete, tt)) }
+
+pub decided-fits : (test : Bool) {P : Type 0} {a : Answer} → Decides test P → Decided Anything ((¬ P) gives a ∷ []) (passIf test a)
+decided-fits true d = record { by = (tt, (λ n. n (d .sound tt), tt)) }
+decided-fits false d = record { by = inl (d .complete, refl) }
 
 pub room-decided : (needed : ℕ) (output : List ℕ) → Decided Anything (roomCauses needed output) (roomVerdict needed (length output))
 unfolding roomVerdict

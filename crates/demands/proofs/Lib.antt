@@ -13,3 +13,4 @@ pub mod ListingExact
 pub mod OutputLaws
 pub mod NextLaws
 pub mod FollowExact
+pub mod WriterExact

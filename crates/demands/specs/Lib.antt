@@ -4,5 +4,6 @@ pub mod Ranks
 pub mod Demand3
 pub mod Ask2
 pub mod Ask3
+pub mod Ask7
 pub mod OneStart
 pub mod Examples

@@ -305,3 +305,9 @@ part-front l e = ap (λ (k : ℕ). take k l) (let z : e - 0 ≡ e = omega arith 
 -- what stands in a part
 pub getD-part : (l : List ℕ) (a e i : ℕ) → a + i < e → getD (part l a e) i 0 ≡ getD l (a + i) 0
 getD-part l a e i h = getD-take (e - a) (drop a l) i 0 (omega arith) ∙ getD-drop a l i 0
+
+-- what stands between two lists
+pub part-between : (p q r : List ℕ) {a e : ℕ} → a ≡ length p → e ≡ a + length q → part (p ++ q ++ r) a e ≡ q
+part-between p q r {a} {e} h k =
+    let rest : drop a (p ++ q ++ r) ≡ q ++ r = ap (drop a) (append-assoc p q r) ∙ drop-at p (q ++ r) a (sym h) in
+    ap (take (e - a)) rest ∙ take-at q r (e - a) (omega arith)

@@ -3,3 +3,5 @@ pub mod WriterLaws
 pub mod PuttingLaws
 pub mod FileLaws
 pub mod VerdictLaws
+pub mod WriteCauseLaws
+pub mod ReadBackLaws

@@ -1,6 +1,7 @@
 -- What the table writer answers and writes (document 02, Ask 7), for any marks, start word and steps and any output: the first refusal of 4, 28, 6, 8, 9 and
 -- 21, all with file 3; or 0, 0 and the length, with the file at the front of the output. n is the number of marks, and m that of the steps given.
-use Prim.Native.Nat.{ℕ, _/_, _%_}
+use Prim.Native.Nat.{ℕ, _/_, _%_, _<_}
+use mathlib.Core.Path.{_≡_}
 use mathlib.Core.Bool.{Bool, not, _||_}
 use mathlib.Core.List.{List}
 use lib.Dec.{leb, ltb, eqb}
@@ -22,6 +23,10 @@ fromAt steps j = stepAt steps j / 256
 
 abbrev pub toAt : List ℕ → ℕ → ℕ
 toAt steps j = stepAt steps j % 256
+
+-- The step from s to u stands in the list.
+abbrev pub StepGiven : List ℕ → (s u : ℕ) → Type 0
+StepGiven steps s u = (j : ℕ) × (j < length steps) × (fromAt steps j ≡ s) × (toAt steps j ≡ u)
 
 -- An end of step j is n or more.
 unfoldable pub endOutside : (n : ℕ) (steps : List ℕ) → ℕ → Bool
