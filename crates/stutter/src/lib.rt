@@ -130,7 +130,8 @@ pub extern "C" fn stutter_write(
     ensures written { λ r. ⌜ now (output .exit)
         ≡ whereRoom (now (answer .entry)) (writeOutput (now (marks .entry)) starts (now (steps .entry)) (now (output .entry))) (now (output .entry)) ⌝ }
 {
-    if answer.len() < PLACES {
+    let room = answer.len();
+    if room < PLACES {
         return false;
     }
     let numbers = table_writer::write(marks, Row(starts), steps, output);
