@@ -6,41 +6,27 @@ use mathlib.Core.Logic.{_↔_, inl, inr, ⊎-elim}
 use mathlib.Core.List.{List, [], _∷_, _++_}
 use native.Mathlib.Nat.{not-suc-le-zero}
 use native.Mathlib.Omega.{arith}
-use native.Mathlib.Decide.{decLt}
 use lib.ListN.{length, take, drop, getD}
 use lib.Seq.{take-at, drop-at, ext-getD}
 use Rattle.lists.specs.Lists.{All, StandsIn, standsIn}
 use Rattle.lists.proofs.BoolLaws.{same-T}
 use Rattle.lists.proofs.JoinLaws.{all-append, all-join}
 use Rattle.lists.proofs.KeptLaws.{stands-e, stands-i, kept-cong}
-use Rattle.bisimulation.specs.Systems.{Step}
 use Rattle.answers.specs.Numbers.{sixNumbers}
 use Rattle.answers.specs.Causes.{Cause, FirstCause, NoCause, Answers, roomCauses}
-use Rattle.answers.specs.Verdicts.{Verdict, goOn}
+use Rattle.answers.specs.Verdicts.{Verdict}
 use Rattle.answers.specs.declared.Answer.{Answer}
 use Rattle.answers.proofs.CauseLaws.{first-holds, zero-none}
 use Rattle.answers.proofs.DecideLaws.{decides-stable}
 use Rattle.answers.proofs.VerdictLaws.{none-on, decided-answer, refused-output, output-on, output-length}
-use Rattle.tables.specs.Table.{initialOf}
-use Rattle.tables.specs.Model.{systemOf}
 use Rattle.table_reader.proofs.TestLaws.{states-decides}
-use Rattle.table_writer.specs.TableFile.{stepsInOrder, tableHeader, tableFile, fileLength}
-use Rattle.table_writer.specs.Writing.{StepGiven, stepAt, writeVerdict, writeAnswer, writeOutput}
+use Rattle.table_writer.specs.TableFile.{stepsInOrder, tableFile, fileLength}
+use Rattle.table_writer.specs.Writing.{StepGiven, writeVerdict, writeAnswer, writeOutput}
 use Rattle.table_writer.specs.WriteCauses.{endCauses, doubledCauses, writeCauses, writeNumber}
 use Rattle.table_writer.proofs.VerdictLaws.{once-each}
 use Rattle.table_writer.proofs.FileLaws.{version-is, file-length}
 use Rattle.table_writer.proofs.WriteCauseLaws.{write-decided, write-numbers}
-use Rattle.table_writer.proofs.ReadBackLaws.{
-  Writable,
-  writable,
-  has-room,
-  once-in-order,
-  written-formed,
-  same-states,
-  same-marks,
-  same-starts,
-  same-steps,
-}
+use Rattle.table_writer.proofs.ReadBackLaws.{Writable, writable, has-room, written-formed, same-states, same-marks, same-starts, same-steps}
 use Rattle.demands.specs.Ask7.{Typed, writtenIn, ReadBack, WriteExact, SameDrawn}
 
 each-small : (l : List ℕ) (b : ℕ) → All (λ x. x < b) l → (i : ℕ) → i < length l → getD l i 0 < b
@@ -83,8 +69,11 @@ module _ (marks : List ℕ) (starts : ℕ) (steps output : List ℕ) where
     fine : Writable marks starts steps
     fine = writable marks starts steps output (success .0)
 
+    once : length (stepsInOrder (length marks) steps) ≡ length steps
+    once = once-each (length marks) steps (fine .inside) (fine .once)
+
     long : length (tableFile marks starts steps) ≡ L
-    long = file-length marks starts steps (once-each (length marks) steps (fine .inside) (fine .once))
+    long = file-length marks starts steps once
 
     after-is : after ≡ tableFile marks starts steps ++ drop L output
     unfolding writeOutput
@@ -200,13 +189,8 @@ module _ (marks : List ℕ) (starts : ℕ) (steps output marks′ : List ℕ) (s
     λ s. written-is marks starts steps output zeroed ∙ equal s ∙ sym (written-is marks′ starts′ steps′ output′ zeroed′),
   )
     where
-      once : length (stepsInOrder (length marks) steps) ≡ length steps
-      once = let f = fine marks starts steps output zeroed in once-each (length marks) steps (f .inside) (f .once)
-
-      once′ : length (stepsInOrder (length marks′) steps′) ≡ length steps′
-      once′ = let f = fine marks′ starts′ steps′ output′ zeroed′ in once-each (length marks′) steps′ (f .inside) (f .once)
-
       equal : SameDrawn marks starts steps marks′ starts′ steps′ → tableFile marks starts steps ≡ tableFile marks′ starts′ steps′
       equal s =
-          file-same marks starts steps steps′ (s .same-steps) once (rw (← (s .same-marks)) at once′)
+          file-same marks starts steps steps′ (s .same-steps) (once marks starts steps output zeroed)
+          (rw (← (s .same-marks)) at (once marks′ starts′ steps′ output′ zeroed′))
           ∙ ap₂ (λ (m : List ℕ) (w : ℕ). tableFile m w steps′) (s .same-marks) (s .same-starts)

@@ -2,18 +2,16 @@
 -- write. Each of 25, 26 and 27 is one test made of the tests of its parts. Assumes nothing.
 use Prim.Native.Nat.{ℕ, _+_, _*_, _-_}
 use mathlib.Core.Path.{_≡_, refl}
-use mathlib.Core.Logic.{inl}
-use mathlib.Core.Bool.{Bool, true, false, not}
-use mathlib.Core.List.{List, [], _∷_}
+use mathlib.Core.Bool.{not}
+use mathlib.Core.List.{List}
 use native.Mathlib.Omega.{arith}
 use lib.ListN.{length}
 use Rattle.lists.specs.Numbers.{byteAt}
 use Rattle.lists.proofs.BoolLaws.{or-l}
 use Rattle.lists.proofs.JoinLaws.{all-imply}
 use Rattle.bisimulation.specs.Systems.{System, Step, View, Ranks}
-use Rattle.answers.specs.Causes.{_gives_, Numbered}
+use Rattle.answers.specs.Causes.{Numbered}
 use Rattle.answers.specs.Verdicts.{passIf}
-use Rattle.answers.specs.declared.Answer.{Answer}
 use Rattle.answers.proofs.CauseLaws.{numbered-append}
 use Rattle.answers.proofs.DecideLaws.{Decides, decides-as, test-decides, ltb-decides, leb-decides, eqb-decides}
 use Rattle.answers.proofs.DecideLaws.{not-decides, and-decides, or-decides, any-decides}

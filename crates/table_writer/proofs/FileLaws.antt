@@ -1,11 +1,10 @@
 -- Laws of the file that is written: its length, and that its fields, its marks and its steps are read back. Assumes nothing.
-use Prim.Native.Nat.{ℕ, _+_, _*_, _-_, _^_, _/_, _%_, _≤_, _<_}
+use Prim.Native.Nat.{ℕ, _+_, _*_, _-_, _^_, _/_, _%_, _<_}
 use mathlib.Core.Path.{_≡_, refl, sym, ap, ap₂, _∙_}
-use mathlib.Core.List.{List, [], _++_, flatMap, append-assoc, append-nil}
+use mathlib.Core.List.{List, [], _++_, flatMap, append-nil}
 use native.Mathlib.Nat.{add-zero, mod-eq-of-lt}
 use native.Mathlib.Omega.{arith}
-use lib.ListN.{length, take, drop, getD, length-append}
-use lib.Seq.{take-at, take-all, drop-at}
+use lib.ListN.{length, getD, length-append}
 use Rattle.lists.specs.Lists.{part}
 use Rattle.lists.specs.Numbers.{byteAt, bigEndian, bigBytes}
 use Rattle.lists.proofs.FillLaws.{part-between}

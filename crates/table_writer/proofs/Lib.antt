@@ -5,3 +5,4 @@ pub mod FileLaws
 pub mod VerdictLaws
 pub mod WriteCauseLaws
 pub mod ReadBackLaws
+pub mod WrittenExamples

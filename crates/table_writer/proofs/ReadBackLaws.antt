@@ -1,14 +1,12 @@
 -- What is written is read back: the file of marks, starts and steps that no cause turns away is a well-formed table, with the same marks, starts and steps.
 -- Assumes nothing.
 use Prim.Native.Nat.{ℕ, zero, suc, _+_, _*_, _^_, _/_, _%_, _≤_, _<_}
-use mathlib.Core.Path.{_≡_, refl, sym, ap, ap₂, _∙_, subst}
+use mathlib.Core.Path.{_≡_, refl, sym, ap, ap₂, _∙_}
 use mathlib.Core.Logic.{_↔_, _⊎_, inl, inr, ⊎-elim}
-use mathlib.Core.Bool.{Bool, true}
-use mathlib.Core.List.{List, [], _∷_, _++_, flatMap, append-nil}
-use native.Mathlib.Nat.{not-suc-le-zero}
+use mathlib.Core.Bool.{true}
+use mathlib.Core.List.{List, [], _++_, flatMap, append-nil}
 use native.Mathlib.Omega.{arith}
 use native.Mathlib.Decide.{decLt}
-use lib.Dec.{T}
 use lib.ListN.{length, getD}
 use Rattle.lists.specs.Lists.{standsIn}
 use Rattle.lists.specs.Numbers.{bigBytes}
@@ -21,24 +19,10 @@ use Rattle.answers.proofs.DecideLaws.{decides-stable}
 use Rattle.bisimulation.specs.Systems.{Step}
 use Rattle.tables.specs.declared.Format.{Format}
 use Rattle.tables.specs.declared.Format.the-variants.{Version4}
-use Rattle.tables.specs.Table.{layoutOf, layoutIn, versionOf, formatIn, statesOf, startsOf, startWord, initialOf, stepsOf, tableLength, labelOf, labelsPart, fromIn, toIn}
+use Rattle.tables.specs.Table.{layoutOf, layoutIn, statesOf, startWord, initialOf, stepsOf, tableLength, labelOf, fromIn, toIn}
 use Rattle.tables.specs.Model.{systemOf}
 use Rattle.tables.proofs.LabelLaws.{label-back}
-use Rattle.table_reader.specs.TableCauses.{
-  StatesFit,
-  WrongStarts,
-  EndOutside as Outside,
-  Greater,
-  NotGreater,
-  StartWord,
-  StepsRise,
-  headerCauses,
-  endCauses as tableEndCauses,
-  doubledCauses as tableDoubledCauses,
-  notGreaterCauses,
-  orderCauses,
-  WellFormedTable,
-}
+use Rattle.table_reader.specs.TableCauses.{StatesFit, WrongStarts, EndOutside as Outside, Greater, NotGreater, StepsRise, headerCauses, endCauses as tableEndCauses, doubledCauses as tableDoubledCauses, notGreaterCauses, orderCauses, WellFormedTable}
 use Rattle.table_reader.proofs.TestLaws.{states-decides}
 use Rattle.table_writer.specs.TableFile.{stepsInOrder, tableFile, fileLength}
 use Rattle.table_writer.specs.Writing.{stepAt, fromAt, toAt, StepGiven}

@@ -3,7 +3,6 @@
 use Prim.Native.Nat.{ℕ, zero, suc, _+_, _*_, _/_, _%_, _^_, _-_, _≤_, _<_, zero-le, suc-le-suc}
 use mathlib.Core.Path.{_≡_, refl, sym, ap, ap₂, _∙_, subst}
 use mathlib.Core.Logic.{⊎-elim}
-use mathlib.Core.List.{List}
 use mathlib.Core.Bool.{Bool, true, false, cond, not, _&&_, _||_, and-comm, false≢true}
 use native.Mathlib.Nat.{
   div-one,
@@ -30,15 +29,10 @@ use lib.Bits.{bitAnd, bitOr, bitXor, and-shr, or-shr, xor-shr, and-mod, or-mod, 
 use lib.Pow.{pow-mono, pow-lt, shr-shr, shr-lt, shr-le}
 use lib.Arith.{lt-one}
 use lib.Count.{ones, ones-step, trailingZeros, under}
-use lib.ListN.{length}
 use borrow.Author.Tests.{ltb-true, ltb-false, eqb-true, lt-ltb, eq-eqb, ne-eqb}
 use Rattle.lists.specs.Below.{firstBelow, sumBelow, countBelow}
-use Rattle.lists.specs.Lists.{putFront}
-use Rattle.lists.specs.Numbers.{bigEndian, bigBytes}
 use Rattle.lists.proofs.BoolLaws.{and-l, and-r, and-i, T-dec, T-true, not-T-false, false-not-T, same-T, eq→eqb}
 use Rattle.lists.proofs.BelowLaws as below
-use Rattle.lists.proofs.FillLaws.{put-front-fits}
-use Rattle.lists.proofs.NumberLaws.{length-bytes, bytes-back}
 use Rattle.words.specs.Bits.{hasBit, hasFrom, addBit, removeBit, withoutBits, countBits, firstBit}
 
 two-pos : zero < 2
