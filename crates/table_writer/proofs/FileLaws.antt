@@ -69,11 +69,14 @@ module _ (marks : List ℕ) (starts : ℕ) (steps : List ℕ) where
   steps-length = flat-length 2 (bigBytes 2) (length-bytes 2) order
 
   before-steps : length (tableHeader (length marks) starts (length steps) ++ marksBytes) ≡ 16 + 4 * length marks
-  before-steps = length-append (tableHeader (length marks) starts (length steps)) marksBytes ∙ ap₂ _+_ (header-length (length marks) starts (length steps)) marks-length
+  before-steps =
+      length-append (tableHeader (length marks) starts (length steps)) marksBytes ∙ ap₂ _+_ (header-length (length marks) starts (length steps)) marks-length
 
   pub file-length : length order ≡ length steps → length table ≡ fileLength (length marks) (length steps)
   unfolding tableFile
-  file-length once = length-append (tableHeader (length marks) starts (length steps) ++ marksBytes) stepsBytes ∙ ap₂ _+_ before-steps (steps-length ∙ ap (λ (k : ℕ). 2 * k) once)
+  file-length once =
+      length-append (tableHeader (length marks) starts (length steps) ++ marksBytes) stepsBytes
+      ∙ ap₂ _+_ before-steps (steps-length ∙ ap (λ (k : ℕ). 2 * k) once)
 
   -- ---- the parts
 

@@ -22,7 +22,8 @@ use Rattle.tables.specs.declared.Format.the-variants.{Version4}
 use Rattle.tables.specs.Table.{layoutOf, layoutIn, statesOf, startWord, initialOf, stepsOf, tableLength, labelOf, fromIn, toIn}
 use Rattle.tables.specs.Model.{systemOf}
 use Rattle.tables.proofs.LabelLaws.{label-back}
-use Rattle.table_reader.specs.TableCauses.{StatesFit, WrongStarts, EndOutside as Outside, Greater, NotGreater, StepsRise, headerCauses, endCauses as tableEndCauses, doubledCauses as tableDoubledCauses, notGreaterCauses, orderCauses, WellFormedTable}
+use Rattle.table_reader.specs.TableCauses.{StatesFit, WrongStarts, EndOutside as Outside, Greater, NotGreater, StepsRise, WellFormedTable}
+use Rattle.table_reader.specs.TableCauses.{headerCauses, endCauses as tableEndCauses, doubledCauses as tableDoubledCauses, notGreaterCauses, orderCauses}
 use Rattle.table_reader.proofs.TestLaws.{states-decides}
 use Rattle.table_writer.specs.TableFile.{stepsInOrder, tableFile, fileLength}
 use Rattle.table_writer.specs.Writing.{stepAt, fromAt, toAt, StepGiven}

@@ -91,7 +91,8 @@ module _ (marks : List ℕ) (starts : ℕ) (steps output : List ℕ) where
             accepted h = by-room ∙ rw (le-ltb (length output) (fileLength (length marks) (length steps)) h)
 
   -- a refusal is answered, and leaves the output as it was
-  pub refused-is : {r a : Answer} → r ≡ a → verdict ≡ refusedWith a → (r ≡ writeAnswer marks starts steps output) × (output ≡ writeOutput marks starts steps output)
+  pub refused-is : {r a : Answer} → r ≡ a → verdict ≡ refusedWith a
+      → (r ≡ writeAnswer marks starts steps output) × (output ≡ writeOutput marks starts steps output)
   unfolding writeAnswer writeOutput
   refused-is e v = (rw v e, rw v)
 

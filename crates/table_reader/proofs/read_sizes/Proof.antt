@@ -91,9 +91,12 @@ starts-wrong-requires : tie.Need-starts-wrong-requires
 starts-wrong-requires c κs = search needs
 
 -- what the test of the word says of the file's starts and states
-wrong-is : (c : tie.After-starts-wrong) → c .starts-wrong .result ≡ wrongStarts (startsOf (file (c .before .before .before))) (statesOf (file (c .before .before .before)))
-wrong-is c =
-    c .starts-wrong .ensures ∙ ap₂ wrongStarts (c .before .starts .ensures) (c .before .before .before .before .before .states .ensures .0)
+module _ (c : tie.After-starts-wrong) where
+  abbrev tested : List ℕ
+  tested = file (c .before .before .before)
+
+  wrong-is : c .starts-wrong .result ≡ wrongStarts (startsOf tested) (statesOf tested)
+  wrong-is = c .starts-wrong .ensures ∙ ap₂ wrongStarts (c .before .starts .ensures) (c .before .before .before .before .before .states .ensures .0)
 
 returns-4 : tie.Need-returns-4
 returns-4 c =
