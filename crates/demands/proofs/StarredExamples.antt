@@ -7,7 +7,7 @@ use lib.Dec.{ltb, ltb→lt}
 use lib.ListN.{length, take}
 use Rattle.lists.specs.Below.{anyBelow, allBelow, firstBelow, sumBelow, countBelow, mostBelow}
 use Rattle.lists.specs.Numbers.{byteAt, bigEndian, bigBytes}
-use Rattle.lists.specs.Lists.{joinBelow, tabulate, grid, putFront}
+use Rattle.lists.specs.Lists.{joinBelow, tabulate, grid, putAt, putFront}
 use Rattle.lists.proofs.BelowLaws.{all-e}
 use Rattle.lists.proofs.FillLaws.{getD-past}
 use Rattle.words.specs.Bits.{hasBit, addBit, hasFrom, countBits, firstBit}
@@ -91,7 +91,7 @@ unfolding
     joinBelow stepsFrom pairChecks checksBy checks along startsNamed startsVerdict checkVerdict pairsIn judged judgedBytes judgeVerdict judgeAnswer
     readRelation roomVerdict examined firstOf makerVerdict verdictBy mayKeep endlessAt firstChain endless
     matchesWithin matched distance mayChain chainAlong stutterRank matchRank mostBelow
-    readVerdict madeVerdict makeVerdict makeAnswer makeOutput fileFor certificateHeader certificateFile bigBytes tabulate grid putFront
+    readVerdict madeVerdict makeVerdict makeAnswer makeOutput fileFor certificateHeader certificateFile bigBytes tabulate grid putAt putFront
 starred = (refl, refl, refl, refl, refl, refl, refl, refl, refl)
 
 -- Q that starts at 0 or at 1 is as good as Q: both are related to P's start. Where it starts at 0 or at 2, the right start 2 is unpaired; with row 0 of 2
@@ -114,7 +114,7 @@ unfolding
     joinBelow stepsFrom pairChecks checksBy checks along startsNamed unpaired unpairedVerdict startsVerdict checkVerdict
     pairsIn judged judgedBytes judgeVerdict judgeAnswer readRelation roomVerdict examined firstOf makerVerdict verdictBy mayKeep endlessAt firstChain endless
     matchesWithin matched distance mayChain chainAlong stutterRank matchRank mostBelow
-    readVerdict madeVerdict makeVerdict makeAnswer makeOutput fileFor certificateHeader certificateFile bigBytes tabulate grid putFront
+    readVerdict madeVerdict makeVerdict makeAnswer makeOutput fileFor certificateHeader certificateFile bigBytes tabulate grid putAt putFront
 two-starts = (refl, refl, refl, refl, refl, refl, refl, refl, refl)
 
 -- document 02's six lines for P, Q and K
@@ -145,7 +145,7 @@ unfolding
     systemOf sizesOf certificateLength alAt arAt clAt rowsPart rowOf certificateSizesFit wideRow readRows readCertificate certificates.readHeader relatedIn
     viewOf ranksOf smallestEntered outcomeAfter2a obligationAt joinBelow stepsFrom pairChecks checksBy checks along startsNamed startsVerdict checkVerdict
     judged judgedBytes judgeVerdict mostBelow smallestStep moves matchSteps matchPath stepOf stepsAlong numberedFrom followed givenEntries matchingEntries
-    flatMap bigBytes putFront hasStep wrongPath wrongStart noRoom matchVerdict followVerdict followAnswer followStates followBlocks
+    flatMap bigBytes putAt putFront hasStep wrongPath wrongStart noRoom matchVerdict followVerdict followAnswer followStates followBlocks
 followed-PQK = (refl, refl, refl, refl, refl, refl, refl, refl, refl, refl, refl)
 
 -- K has 51 bytes, and the maker writes exactly K, into an output of 51 bytes or at the front of a longer one; 50 bytes are too few
@@ -163,7 +163,7 @@ unfolding
     joinBelow stepsFrom pairChecks checksBy checks along startsNamed startsVerdict checkVerdict pairsIn judged judgedBytes judgeVerdict judgeAnswer
     readRelation roomVerdict examined firstOf makerVerdict verdictBy mayKeep endlessAt firstChain endless
     matchesWithin matched distance mayChain chainAlong stutterRank matchRank mostBelow
-    readVerdict madeVerdict makeVerdict makeAnswer makeOutput fileFor certificateHeader certificateFile bigBytes tabulate grid putFront
+    readVerdict madeVerdict makeVerdict makeAnswer makeOutput fileFor certificateHeader certificateFile bigBytes tabulate grid putAt putFront
 made-K = (refl, refl, refl, refl, refl)
 
 -- P and Q with the rows 3 and 4 are well formed, and the relation has the path property: no hypothesis of the demands is empty

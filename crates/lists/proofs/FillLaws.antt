@@ -4,7 +4,7 @@ use mathlib.Core.Path.{_≡_, refl, sym, ap, ap₂, _∙_, subst}
 use mathlib.Core.List.{List, [], _∷_, _++_, append-assoc, append-nil}
 use mathlib.Core.Logic.{⊎-elim}
 use Prim.Native.Nat.{ℕ, zero, suc, _+_, _*_, _-_, _/_, _%_, _<_, _≤_, zero-le}
-use native.Mathlib.Nat.{not-suc-le-zero, le-of-suc-le-suc, eq-or-lt-of-le, mul-le-mul-right, suc-mul, zero-mul, div-add-mod', div-lt-iff-lt-mul, mod-lt}
+use native.Mathlib.Nat.{not-suc-le-zero, le-of-suc-le-suc, eq-or-lt-of-le, mul-le-mul-right, zero-add, suc-mul, zero-mul, div-add-mod', div-lt-iff-lt-mul, mod-lt}
 use native.Mathlib.Numerals.{add-one}
 use native.Mathlib.Omega.{arith}
 use native.Mathlib.Decide.{ℕ-discrete, decLe}
@@ -157,14 +157,23 @@ front-all {p} {d} {l} {a} w h =
     let k : length d ≤ a = omega arith in
     w .eq ∙ ap (λ (x : List ℕ). p ++ x) (drop-of-length-le d k) ∙ append-nil p
 
--- a list that has room takes the front, and one that has none stays
+-- a list that has room takes what is put from a on, and one that has none stays
+pub put-at-fits : (a : ℕ) (r d : List ℕ) → a + length r ≤ length d → putAt a r d ≡ take a d ++ r ++ drop (a + length r) d
+unfolding putAt
+put-at-fits a r d h = simp (le-leb (a + length r) (length d) h)
+
+pub put-at-short : (a : ℕ) (r d : List ℕ) → length d < a + length r → putAt a r d ≡ d
+unfolding putAt
+put-at-short a r d h = simp (lt-leb (a + length r) (length d) h)
+
+-- so it is with a front
 pub put-front-fits : (p d : List ℕ) → length p ≤ length d → putFront p d ≡ p ++ drop (length p) d
 unfolding putFront
-put-front-fits p d h = simp (le-leb (length p) (length d) h)
+put-front-fits p d h = put-at-fits 0 p d (rw zero-add h) ∙ ap (λ (k : ℕ). p ++ drop k d) (zero-add (length p))
 
 pub put-front-short : (p d : List ℕ) → length d < length p → putFront p d ≡ d
 unfolding putFront
-put-front-short p d h = simp (lt-leb (length p) (length d) h)
+put-front-short p d h = put-at-short 0 p d (rw zero-add h)
 
 pub put-front-length : (p d : List ℕ) → length (putFront p d) ≡ length d
 put-front-length p d = elim (decLe (length p) (length d)) [
@@ -177,15 +186,6 @@ pub put-front-whole : (p d : List ℕ) → length d ≡ length p → putFront p 
 put-front-whole p d e =
     let h : length d ≤ length p = omega arith in
     put-front-fits p d (omega arith) ∙ ap (λ (x : List ℕ). p ++ x) (drop-of-length-le d h) ∙ append-nil p
-
--- a list that has room takes what is put from a on, and one that has none stays
-pub put-at-fits : (a : ℕ) (r d : List ℕ) → a + length r ≤ length d → putAt a r d ≡ take a d ++ r ++ drop (a + length r) d
-unfolding putAt
-put-at-fits a r d h = simp (le-leb (a + length r) (length d) h)
-
-pub put-at-short : (a : ℕ) (r d : List ℕ) → length d < a + length r → putAt a r d ≡ d
-unfolding putAt
-put-at-short a r d h = simp (lt-leb (a + length r) (length d) h)
 
 -- what stands before a is a front
 pub front-from : (d : List ℕ) (a : ℕ) → a ≤ length d → Front (take a d) d d a

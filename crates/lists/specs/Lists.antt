@@ -57,10 +57,10 @@ grid (suc n) m f = grid n m f ++ tabulate m (f n)
 abbrev pub part : List ℕ → ℕ → ℕ → List ℕ
 part l a e = take (e - a) (drop a l)
 
--- The list with `front` written over its first elements; a list that is too short stays as it is.
-unfoldable pub putFront : List ℕ → List ℕ → List ℕ
-putFront front l = cond (leb (length front) (length l)) (front ++ drop (length front) l) l
-
 -- The list with `new` written over its elements from index `at` on; a list that is too short for it stays as it is.
 unfoldable pub putAt : ℕ → List ℕ → List ℕ → List ℕ
 putAt at new l = cond (leb (at + length new) (length l)) (take at l ++ new ++ drop (at + length new) l) l
+
+-- The list with `front` written over its first elements; a list that is too short stays as it is.
+unfoldable pub putFront : List ℕ → List ℕ → List ℕ
+putFront front l = putAt 0 front l

@@ -4,7 +4,7 @@ use mathlib.Core.Path.{_≡_, refl}
 use mathlib.Core.List.{List, [], _∷_, flatMap}
 use lib.ListN.{replicate}
 use Rattle.lists.specs.Below.{anyBelow}
-use Rattle.lists.specs.Lists.{standsIn, keptBelow, putFront}
+use Rattle.lists.specs.Lists.{standsIn, keptBelow, putAt, putFront}
 use Rattle.lists.specs.Numbers.{bigBytes}
 use Rattle.words.specs.Bits.{hasBit, hasFrom}
 use Rattle.answers.specs.Numbers.{sixNumbers}
@@ -27,7 +27,7 @@ output = replicate 29 0xff
 pub written-bytes : writeOutput marks 2 steps output
     ≡ 0x54 ∷ 0x50 ∷ 0x54 ∷ 0 ∷ 4 ∷ 2 ∷ 0 ∷ 0 ∷ 0 ∷ 0 ∷ 0 ∷ 0 ∷ 0 ∷ 2 ∷ 0 ∷ 2 ∷ 0 ∷ 0 ∷ 0 ∷ 1 ∷ 0 ∷ 1 ∷ 0 ∷ 2 ∷ 0 ∷ 1 ∷ 1 ∷ 0 ∷ 0xff ∷ []
 unfolding writeOutput writeVerdict statesFit wrongStarts hasFrom hasBit anyBelow firstOf endOutside equalsEarlier roomVerdict tableFile tableHeader stepsInOrder
-    standsIn keptBelow bigBytes flatMap putFront
+    standsIn keptBelow bigBytes flatMap putAt putFront
 written-bytes = refl
 
 pub written-answer : writeAnswer marks 2 steps output ≡ sixNumbers 0 0 28

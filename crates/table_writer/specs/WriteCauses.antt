@@ -29,6 +29,7 @@ endCauses n steps = joinBelow (length steps) (λ j. EndOutside n steps j gives s
 abbrev pub doubledCauses : List ℕ → List Cause
 doubledCauses steps = joinBelow (length steps) (λ j. EqualsEarlier steps j gives sixNumbers 9 3 j ∷ [])
 
+-- The causes, in the document's order.
 abbrev pub writeCauses : (marks : List ℕ) (starts : ℕ) (steps output : List ℕ) → List Cause
 writeCauses marks starts steps output =
     -- n not 1 to 64
