@@ -57,7 +57,7 @@ module _ (f : Format) (steps : List ℕ) where
   outside-decides n j = or-decides (leb-decides _ _) (leb-decides _ _)
 
   -- where no step has an end of n or more, every end is below what n does not exceed
-  pub outside-none : (n k m : ℕ) {o : ℕ} → o ≡ firstBelow m (endsOutside f steps n) → m ≤ o → n ≤ k → EndsBelow k f steps m
+  pub outside-none : (n k m : ℕ) {o : ℕ} → o ≡ firstBelow m (endsOutside f steps n) → m ≤ o → n ≤ k → EndsBelow k (fromOf f steps) (toOf f steps) m
   outside-none n k m e none le j l =
       let d = outside-decides n j in
       let inside : (n ≤ fromOf f steps j) ⊎ (n ≤ toOf f steps j) → ⊥ = λ o. first-least m (endsOutside f steps n) j (omega arith) (d .complete o) in

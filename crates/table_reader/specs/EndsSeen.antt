@@ -7,12 +7,10 @@ use lib.Dec.{T}
 use lib.ListN.{length, getD}
 use Rattle.words.specs.Bits.{hasBit}
 use Rattle.words.specs.declared.Row.{Row}
-use Rattle.tables.specs.declared.Format.{Format}
-use Rattle.tables.specs.Table.{fromOf, toOf}
 
 -- The ends of the first m steps are below n.
-abbrev pub EndsBelow : ℕ → Format → List ℕ → ℕ → Type 0
-EndsBelow n f steps m = (j : ℕ) → j < m → (fromOf f steps j < n) × (toOf f steps j < n)
+abbrev pub EndsBelow : (n : ℕ) → (from to : ℕ → ℕ) → (m : ℕ) → Type 0
+EndsBelow n from to m = (j : ℕ) → j < m → (from j < n) × (to j < n)
 
 -- The word of state s; past the last word it is empty.
 abbrev pub wordOf : List Row → ℕ → ℕ

@@ -20,7 +20,7 @@ use words::Row;
 ghost use mathlib.Core.Path.{_≡_};
 ghost use Rattle.lists.specs.Below.{firstBelow};
 ghost use Rattle.answers.specs.Verdicts.{refusalOf};
-ghost use Rattle.tables.specs.Table.{magicFits};
+ghost use Rattle.tables.specs.Table.{magicFits, fromOf, toOf};
 ghost use Rattle.table_reader.specs.TableReading.{headOf, wrongStarts, readLength, readSizes, readHeader, readTable};
 ghost use Rattle.table_reader.specs.TableReading.{endsOutside, doubled, greater, notGreater};
 ghost use Rattle.table_reader.specs.EndsSeen.{EndsBelow};
@@ -151,7 +151,7 @@ fn first_outside(steps: &[u8], format: Format, n: usize, m: usize) -> usize
 // The first of m steps that equals an earlier one, and m where there is none; their ends are below 64. One word of ends seen for each state has a bit
 // exactly where a step so far has that from and to.
 fn first_doubled(steps: &[u8], format: Format, m: usize) -> usize
-    requires { ⌜ EndsBelow 64 format (now steps) m ⌝ }
+    requires { ⌜ EndsBelow 64 (fromOf format (now steps)) (toOf format (now steps)) m ⌝ }
     ensures { λ r. ⌜ r ≡ firstBelow m (doubled format (now (steps .entry))) ⌝ }
 {
     let mut seen: [Row; Head::MAX_STATES] = [Row::empty(); Head::MAX_STATES];

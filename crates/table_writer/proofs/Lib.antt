@@ -1,5 +1,6 @@
 -- Laws of the table writer.
-pub mod WriterLaws
+pub mod TestLaws
+pub mod WordLaws
 pub mod PuttingLaws
 pub mod FileLaws
 pub mod VerdictLaws

@@ -24,11 +24,11 @@ use Rattle.tables.specs.Model.{systemOf}
 use Rattle.tables.proofs.LabelLaws.{label-back}
 use Rattle.table_reader.specs.TableCauses.{StatesFit, WrongStarts, EndOutside as Outside, Greater, NotGreater, StepsRise, WellFormedTable}
 use Rattle.table_reader.specs.TableCauses.{headerCauses, endCauses as tableEndCauses, doubledCauses as tableDoubledCauses, notGreaterCauses, orderCauses}
+use Rattle.table_reader.specs.EndsSeen.{EndsBelow}
 use Rattle.table_reader.proofs.TestLaws.{states-decides}
 use Rattle.table_writer.specs.TableFile.{stepsInOrder, tableFile, fileLength}
 use Rattle.table_writer.specs.Writing.{stepAt, fromAt, toAt, StepGiven}
 use Rattle.table_writer.specs.WriteCauses.{EndOutside, EqualsEarlier, endCauses, doubledCauses, writeCauses}
-use Rattle.table_writer.specs.Words.{EndsBelow}
 use Rattle.table_writer.proofs.VerdictLaws.{once-each}
 use Rattle.table_writer.proofs.FileLaws as file
 
@@ -39,7 +39,7 @@ pub record Writable (marks : List ℕ) (starts : ℕ) (steps : List ℕ) : Type 
   pub fits : StatesFit (length marks)
   pub starts-fine : ¬ WrongStarts starts (length marks)
   pub few : length steps ≤ 256
-  pub inside : EndsBelow (length marks) steps
+  pub inside : EndsBelow (length marks) (fromAt steps) (toAt steps) (length steps)
   pub once : (j : ℕ) → j < length steps → ¬ EqualsEarlier steps j
 
 module _ (marks : List ℕ) (starts : ℕ) (steps output : List ℕ) (none : NoCause (writeCauses marks starts steps output)) where

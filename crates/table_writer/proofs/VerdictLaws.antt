@@ -17,13 +17,14 @@ use Rattle.answers.specs.declared.Answer.{Answer}
 use Rattle.answers.specs.Verdicts.{Verdict, refusedWith, passed, passIf, roomVerdict, firstOf}
 use Rattle.answers.proofs.VerdictLaws.{test-hit, test-none}
 use Rattle.words.specs.declared.Row.{Row}
-use Rattle.table_reader.specs.EndsSeen.{EndsSeen}
+use Rattle.table_reader.specs.EndsSeen.{EndsBelow, EndsSeen}
 use Rattle.table_reader.specs.TableReading.{statesFit, wrongStarts}
 use Rattle.table_writer.specs.TableFile.{stepsInOrder, tableFile, fileLength}
 use Rattle.table_writer.specs.Writing.{stepAt, fromAt, toAt, endOutside, equalsEarlier, writeVerdict, writeAnswer, writeOutput}
 use Rattle.table_writer.specs.WriteCauses.{EqualsEarlier}
-use Rattle.table_writer.specs.Words.{EndsBelow, Ready}
-use Rattle.table_writer.proofs.WriterLaws.{earlier-decides, outside-none, words-in-order}
+use Rattle.table_writer.specs.Words.{Ready}
+use Rattle.table_writer.proofs.TestLaws.{earlier-decides, outside-none}
+use Rattle.table_writer.proofs.WordLaws.{words-in-order}
 
 -- ---- a search: the first step that passes the test is refused
 
@@ -105,7 +106,7 @@ module _ (marks : List ℕ) (starts : ℕ) (steps output : List ℕ) where
 -- ---- the words are ready
 
 -- steps that are all different and have their ends below n are as many in order
-pub once-each : (n : ℕ) (steps : List ℕ) → EndsBelow n steps → ((j : ℕ) → j < length steps → ¬ EqualsEarlier steps j)
+pub once-each : (n : ℕ) (steps : List ℕ) → EndsBelow n (fromAt steps) (toAt steps) (length steps) → ((j : ℕ) → j < length steps → ¬ EqualsEarlier steps j)
     → length (stepsInOrder n steps) ≡ length steps
 unfolding stepsInOrder standsIn
 once-each n steps below once =

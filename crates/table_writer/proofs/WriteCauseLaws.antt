@@ -15,7 +15,7 @@ use Rattle.table_reader.proofs.TestLaws.{states-decides, starts-decides}
 use Rattle.table_writer.specs.TableFile.{fileLength}
 use Rattle.table_writer.specs.Writing.{endOutside, equalsEarlier, writeVerdict}
 use Rattle.table_writer.specs.WriteCauses.{endCauses, doubledCauses, writeCauses, writeNumber}
-use Rattle.table_writer.proofs.WriterLaws.{outside-decides, earlier-decides}
+use Rattle.table_writer.proofs.TestLaws.{outside-decides, earlier-decides}
 
 module _ (marks : List ℕ) (starts : ℕ) (steps output : List ℕ) where
   pub write-decided : Decided Anything (writeCauses marks starts steps output) (writeVerdict marks starts steps output)
