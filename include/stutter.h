@@ -1,5 +1,5 @@
-/* The judge and the maker of stuttering certificates, the follower of runs and the writer of tables, for C. Link with libstutter.a, which
- * `rt staticlib stutter` writes to target/staticlib. */
+/* The judge and the maker of stuttering certificates, the enquiry and the commit, the follower of runs and the writer of tables, for C. Link with
+ * libstutter.a, which `rt staticlib stutter` writes to target/staticlib. */
 #ifndef STUTTER_H
 #define STUTTER_H
 
@@ -76,6 +76,66 @@ bool stutter_make(const uint8_t *left, size_t left_length,
                   const uint8_t *relation, size_t relation_length,
                   uint8_t *output, size_t output_length,
                   uint64_t *answer, size_t answer_length);
+
+/* The places that a slip takes. */
+#define STUTTER_SLIP_LENGTH 4
+
+/* Says whether a certificate can be made, before an output is set aside for it. The files are those of stutter_make. Any bytes are taken, and no file is
+ * too short or too long. No pointer is null, not even that of an empty file.
+ *
+ * The six numbers are those that stutter_make gives with an output that is long enough, so never 21; they go to the first six places of `answer`. A slip for
+ * stutter_commit goes to the first four places of `slip`. Later places of both stay as they are, and the function returns true. Where `answer_length` is
+ * below six or `slip_length` below four nothing at all is written, neither to `slip` nor to `answer`, and it returns false. `slip` and `answer` overlap
+ * each other and the files nowhere.
+ *
+ *   slip[0]    the bytes of the left table
+ *   slip[1]    the bytes of the right table
+ *   slip[2]    the bytes of the relation
+ *   slip[3]    the bytes of the certificate, L; on a refusal all four are 0
+ *
+ *   answer[0]  code: 0 where a certificate can be made; else the number of the cause for which there is none
+ *   answer[1]  file: 0 left table, 1 right table, 2 relation
+ *   answer[2]  a ..
+ *   answer[5]  .. d: as the code says; a value that it does not name is 0
+ *
+ *   code     a, b, c, d
+ *   0        a the bytes of the certificate, L
+ *   1 to 9   as of stutter_make, and so 15 to 17, 20, 22 to 24 and 28
+ */
+bool stutter_enquire(const uint8_t *left, size_t left_length,
+                     const uint8_t *right, size_t right_length,
+                     const uint8_t *relation, size_t relation_length,
+                     uint64_t *slip, size_t slip_length,
+                     uint64_t *answer, size_t answer_length);
+
+/* Makes the certificate after an enquiry. The files are those of stutter_make, and the first four places of `slip` are the slip; later ones do not count.
+ * Any bytes and any numbers are taken, and no file is too short or too long. No pointer is null, not even that of an empty file or output.
+ *
+ * A certificate of L bytes goes to the first L bytes of `output`, later bytes stay as they are; on a refusal `output` stays as it was. The six numbers
+ * go to the first six places of `answer`, later places stay as they are, and the function returns true. Where `answer_length` is below six or
+ * `slip_length` below four nothing at all is written, neither to `output` nor to `answer`, and it returns false. `output` and `answer` overlap each
+ * other, the slip and the files nowhere.
+ *
+ *   answer[0]  code: 0 where a certificate was made, the one that stutter_make makes; else the number of the cause for which it was not
+ *   answer[1]  file: 0 left table, 1 right table, 2 relation or slip, 3 output
+ *   answer[2]  a ..
+ *   answer[5]  .. d: as the code says; a value that it does not name is 0
+ *
+ *   code     a, b, c, d
+ *   0        a the bytes of the certificate, L
+ *   1 to 9   as of stutter_make, and so 15 to 17, 20 to 24 and 28
+ *   29       none: a number on the slip is not that of the files
+ *
+ * Where several of these apply, the first is answered of: 1 to 9, 24 and 28 of the left table, then of the right one; 20, 15, 29, 21, 16; 17 and 22; 23. So
+ * with the files and the slip of an enquiry that was answered with 0, an output of L bytes always serves. With the zeros of a refused one the same
+ * refusal comes again, or 29 in place of 16, 17, 22 and 23.
+ */
+bool stutter_commit(const uint8_t *left, size_t left_length,
+                    const uint8_t *right, size_t right_length,
+                    const uint8_t *relation, size_t relation_length,
+                    const uint64_t *slip, size_t slip_length,
+                    uint8_t *output, size_t output_length,
+                    uint64_t *answer, size_t answer_length);
 
 /* The most bytes that are written for a run: 256 states are given, and at most 64 written for each. Outputs of these lengths serve any run. */
 #define STUTTER_STATES_MOST 49152

@@ -1,5 +1,5 @@
-//! A plain judge and a plain maker of stuttering certificates, a plain follower of runs and
-//! a plain writer of tables.
+//! A plain judge and a plain maker of stuttering certificates, with a plain enquiry and a
+//! plain commit, a plain follower of runs and a plain writer of tables.
 //!
 //! Every notion of the scope document and of the change requests has one function
 //! here, and the comment above it quotes the sentence it follows, so that the two can
@@ -7,6 +7,7 @@
 //! `tuned_follow` and `tuned_write` are, and are checked against the rest.
 
 mod certificate;
+mod enquiry;
 mod follow;
 mod judge;
 mod listing;
@@ -22,6 +23,7 @@ pub mod tuned_write;
 mod write;
 
 pub use certificate::Layout;
+pub use enquiry::{commit, commit_by_relaxing, enquire, enquire_by_relaxing, Slip};
 pub use follow::follow;
 pub use judge::judge;
 pub use listing::{list, listing_program, Line};

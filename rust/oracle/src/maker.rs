@@ -6,40 +6,70 @@ use crate::table::read_table;
 use crate::Answer;
 
 /// The chase length of each own step at each other state: `[j][t]`.
-type Chase = fn(&Side) -> Vec<Vec<Option<usize>>>;
+pub type Chase = fn(&Side) -> Vec<Vec<Option<usize>>>;
 
 /// "Input: two tables, n1 rows of 8 bytes, an output." On a refusal the output
 /// is left as it was; on success "bytes after L stay".
 pub fn make(left: &[u8], right: &[u8], relation: &[u8], output: &mut [u8]) -> Answer {
-    make_by(chase_lengths, left, right, relation, output)
+    make_after(|_| Ok(()), chase_lengths, left, right, relation, output)
 }
 
 /// The same by the proved maker's method: one row of lengths is relaxed for each
 /// own step.
 pub fn make_by_relaxing(left: &[u8], right: &[u8], relation: &[u8], output: &mut [u8]) -> Answer {
-    make_by(relaxed_lengths, left, right, relation, output)
+    make_after(|_| Ok(()), relaxed_lengths, left, right, relation, output)
 }
 
-fn make_by(chase: Chase, left: &[u8], right: &[u8], relation: &[u8], output: &mut [u8]) -> Answer {
-    match certificate_for(chase, left, right, relation, output.len()) {
-        Ok(file) => {
+/// The maker with one test more, after 15 and before 21.
+pub fn make_after(
+    test: impl FnOnce(&Layout) -> Result<(), Answer>,
+    chase: Chase,
+    left: &[u8],
+    right: &[u8],
+    relation: &[u8],
+    output: &mut [u8],
+) -> Answer {
+    let found = find_ranks(chase, left, right, relation, |layout| {
+        test(layout)?;
+        // "output under L bytes"
+        if output.len() < layout.length() {
+            return Err([21, 3, layout.length() as u64, 0, 0, 0]);
+        }
+        Ok(())
+    });
+    match found {
+        Ok(found) => {
+            let file = write(&found, relation);
             output[..file.len()].copy_from_slice(&file);
-            // "The maker succeeds with 0, 0, L."
-            [0, 0, file.len() as u64, 0, 0, 0]
+            success(&found.layout)
         }
         Err(refusal) => refusal,
     }
 }
 
-/// The certificate to be written, or the refusal. "maker 20, 15, 21, 16, then
-/// pairs and steps in judging order for 17 and 22, then 23, left side first".
-fn certificate_for(
+/// "The maker succeeds with 0, 0, L."
+pub fn success(layout: &Layout) -> Answer {
+    [0, 0, layout.length() as u64, 0, 0, 0]
+}
+
+/// What a certificate is written from, for each side: the chase lengths, `[j][t]`, and the
+/// longest chains, `[t][s]`.
+pub struct Found {
+    pub layout: Layout,
+    chase: [Vec<Vec<Option<usize>>>; 2],
+    chains: [Vec<Vec<usize>>; 2],
+}
+
+/// Finds the ranks, or gives the refusal. "maker 20, 15, 21, 16, then pairs and steps in
+/// judging order for 17 and 22, then 23, left side first"; what comes between 15 and 16 is
+/// the caller's test.
+pub fn find_ranks(
     chase: Chase,
     left: &[u8],
     right: &[u8],
     relation: &[u8],
-    output_length: usize,
-) -> Result<Vec<u8>, Answer> {
+    test: impl FnOnce(&Layout) -> Result<(), Answer>,
+) -> Result<Found, Answer> {
     let left = read_table(left, 0)?;
     let right = read_table(right, 1)?;
     let layout = Layout::new(&left, &right);
@@ -50,10 +80,7 @@ fn certificate_for(
     }
     // "its rows are read as a certificate's": 15.
     let related = read_rows(relation, layout.n1, layout.n2)?;
-    // "output under L bytes"
-    if output_length < layout.length() {
-        return Err([21, 3, layout.length() as u64, 0, 0, 0]);
-    }
+    test(&layout)?;
     let sides = both_sides(&left, &right, &related);
     test_starts(&sides)?;
 
@@ -77,14 +104,17 @@ fn certificate_for(
     ];
     test_chains(0, &sides[0], &chains[0])?;
     test_chains(1, &sides[1], &chains[1])?;
-
-    Ok(write(layout, relation, &chase, &chains))
+    Ok(Found {
+        layout,
+        chase,
+        chains,
+    })
 }
 
 /// For each own step j and each other state t, the chase length of the duty of
 /// step j at t; `None` where the step is unmatched at t, or where the state it
 /// comes from is unrelated to t, so that there is no duty.
-fn chase_lengths(side: &Side) -> Vec<Vec<Option<usize>>> {
+pub fn chase_lengths(side: &Side) -> Vec<Vec<Option<usize>>> {
     (0..side.own.steps.len())
         .map(|j| {
             (0..side.other.states())
@@ -133,7 +163,7 @@ fn chase_length(side: &Side, s: usize, u: usize, t: usize) -> Option<usize> {
     None
 }
 
-fn relaxed_lengths(side: &Side) -> Vec<Vec<Option<usize>>> {
+pub fn relaxed_lengths(side: &Side) -> Vec<Vec<Option<usize>>> {
     let steps = side.own.steps.iter();
     steps
         .map(|step| relaxed(side, step.from, step.to))
@@ -211,13 +241,13 @@ fn test_chains(number: u64, side: &Side, chains: &[Vec<usize>]) -> Result<(), An
 /// "The file written has the rows given; each C rank of a matched duty is its
 /// chase length, other C ranks 0; each A rank of a related pair is the most steps
 /// in a chain [...], other A ranks 0."
-fn write(
-    layout: Layout,
-    relation: &[u8],
-    chase: &[Vec<Vec<Option<usize>>>; 2],
-    chains: &[Vec<Vec<usize>>; 2],
-) -> Vec<u8> {
-    let Layout { n1, n2, m1, m2 } = layout;
+fn write(found: &Found, relation: &[u8]) -> Vec<u8> {
+    let Found {
+        layout,
+        chase,
+        chains,
+    } = found;
+    let &Layout { n1, n2, m1, m2 } = layout;
     let mut file = vec![0; layout.length()];
     file[..11].copy_from_slice(&layout.header());
     file[11..11 + 8 * n1].copy_from_slice(relation);

@@ -1,16 +1,61 @@
-//! The maker once more, tuned: the method of the proved maker on 64-bit words.
+//! The maker once more, tuned, and so the enquiry and the commit: the method of the proved
+//! maker on 64-bit words.
 //!
 //! For each own step one row of lengths is relaxed over the other side's steps
 //! until a round changes nothing. Chains are lengthened by rounds, for all states
-//! of a side together. It shares no code with the plain maker.
+//! of a side together. Nothing here shares code with the plain maker.
 
 use crate::tuned::{bits, read_rows, read_table, test_starts, turn, Table};
-use crate::Answer;
+use crate::{Answer, Slip};
 
 /// "Input: two tables, n1 rows of 8 bytes, an output."
 pub fn make(left: &[u8], right: &[u8], relation: &[u8], output: &mut [u8]) -> Answer {
-    match make_or_refuse(left, right, relation, output) {
-        Ok(answer) | Err(answer) => answer,
+    make_after(|_| Ok(()), left, right, relation, output)
+}
+
+/// "The enquiry takes tables and relation, writes nothing, and returns the maker's answer
+/// without 21, with a slip".
+pub fn enquire(left: &[u8], right: &[u8], relation: &[u8]) -> (Answer, Slip) {
+    match examine(left, right, relation, |_| Ok(()), |_, _| {}) {
+        Ok(length) => {
+            let slip = numbers(left, right, relation, length);
+            ([0, 0, length as u64, 0, 0, 0], slip)
+        }
+        Err(refusal) => (refusal, [0; 4]),
+    }
+}
+
+/// "The commit takes the inputs, the slip and the output, and otherwise behaves as the
+/// maker."
+pub fn commit(left: &[u8], right: &[u8], relation: &[u8], slip: Slip, output: &mut [u8]) -> Answer {
+    let test = |length| match slip == numbers(left, right, relation, length) {
+        true => Ok(()),
+        false => Err([29, 2, 0, 0, 0, 0]),
+    };
+    make_after(test, left, right, relation, output)
+}
+
+fn numbers(left: &[u8], right: &[u8], relation: &[u8], length: usize) -> Slip {
+    [left.len(), right.len(), relation.len(), length].map(|length| length as u64)
+}
+
+/// The maker with one test more before 21, which is given L.
+fn make_after(
+    test: impl FnOnce(usize) -> Result<(), Answer>,
+    left: &[u8],
+    right: &[u8],
+    relation: &[u8],
+    output: &mut [u8],
+) -> Answer {
+    let room = output.len();
+    let test = |length| match test(length) {
+        Ok(()) if room < length => Err([21, 3, length as u64, 0, 0, 0]),
+        tested => tested,
+    };
+    let fill = |sides: &[Side; 2], chains: &[Vec<u8>; 2]| fill(sides, chains, relation, output);
+    match examine(left, right, relation, test, fill) {
+        Ok(length) => [0, 0, length as u64, 0, 0, 0],
+        Err(refusal) => refusal,
     }
 }
 
@@ -25,12 +70,16 @@ struct Side<'a> {
     distances: Vec<u8>,
 }
 
-fn make_or_refuse(
+/// Gives L where there is a certificate, and then the sides and their chains to `then`.
+/// `test` is given L after 15 and before 16.
+#[inline]
+fn examine(
     left: &[u8],
     right: &[u8],
     relation: &[u8],
-    output: &mut [u8],
-) -> Result<Answer, Answer> {
+    test: impl FnOnce(usize) -> Result<(), Answer>,
+    then: impl FnOnce(&[Side; 2], &[Vec<u8>; 2]),
+) -> Result<usize, Answer> {
     let left = read_table(left, 0)?;
     let right = read_table(right, 1)?;
     let (n1, n2) = (left.states, right.states);
@@ -40,9 +89,7 @@ fn make_or_refuse(
     }
     let rows = read_rows(relation, n2)?;
     let length = 11 + 8 * n1 + 2 * n1 * n2 + m1 * n2 + m2 * n1;
-    if output.len() < length {
-        return Err([21, 3, length as u64, 0, 0, 0]);
-    }
+    test(length)?;
     let columns = turn(&rows, n1);
     test_starts(&left, &right, &rows, &columns)?;
 
@@ -68,12 +115,20 @@ fn make_or_refuse(
             return Err([23, 2, number as u64, fixed as u64, first as u64, 0]);
         }
     }
+    then(&sides, &chains);
+    Ok(length)
+}
 
-    let (header, rest) = output[..length].split_at_mut(11);
+/// Writes the certificate at the front of an output that has room for it.
+fn fill(sides: &[Side; 2], chains: &[Vec<u8>; 2], relation: &[u8], output: &mut [u8]) {
+    let [n1, n2] = [0, 1].map(|number| sides[number].own.states);
+    let [m1, m2] = [0, 1].map(|number| sides[number].own.steps.len() / 2);
+    let (header, rest) = output.split_at_mut(11);
     let (given, rest) = rest.split_at_mut(8 * n1);
     let (al, rest) = rest.split_at_mut(n1 * n2);
     let (ar, rest) = rest.split_at_mut(n1 * n2);
-    let (cl, cr) = rest.split_at_mut(m1 * n2);
+    let (cl, rest) = rest.split_at_mut(m1 * n2);
+    let cr = &mut rest[..m2 * n1];
     header[..7].copy_from_slice(&[b'T', b'P', b'C', 0, 1, n1 as u8, n2 as u8]);
     header[7..9].copy_from_slice(&(m1 as u16).to_be_bytes());
     header[9..].copy_from_slice(&(m2 as u16).to_be_bytes());
@@ -82,7 +137,6 @@ fn make_or_refuse(
     sides[1].write_stutter(&chains[1], ar);
     sides[0].write_chase(cl);
     sides[1].write_chase(cr);
-    Ok([0, 0, length as u64, 0, 0, 0])
 }
 
 impl<'a> Side<'a> {

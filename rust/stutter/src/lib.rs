@@ -1,5 +1,5 @@
-//! The proved judge, the proved maker, the proved follower and the proved writer, for Rust:
-//! a safe interface to `include/stutter.h`.
+//! The proved judge, the proved maker with its enquiry and its commit, the proved follower
+//! and the proved writer, for Rust: a safe interface to `include/stutter.h`.
 
 /// "Six numbers: code, file, a, b, c, d."
 pub type Answer = [u64; 6];
@@ -24,6 +24,34 @@ extern "C" {
         right_length: usize,
         relation: *const u8,
         relation_length: usize,
+        output: *mut u8,
+        output_length: usize,
+        answer: *mut u64,
+        answer_length: usize,
+    ) -> bool;
+
+    fn stutter_enquire(
+        left: *const u8,
+        left_length: usize,
+        right: *const u8,
+        right_length: usize,
+        relation: *const u8,
+        relation_length: usize,
+        slip: *mut u64,
+        slip_length: usize,
+        answer: *mut u64,
+        answer_length: usize,
+    ) -> bool;
+
+    fn stutter_commit(
+        left: *const u8,
+        left_length: usize,
+        right: *const u8,
+        right_length: usize,
+        relation: *const u8,
+        relation_length: usize,
+        slip: *const u64,
+        slip_length: usize,
         output: *mut u8,
         output_length: usize,
         answer: *mut u64,
@@ -120,6 +148,107 @@ pub fn make_into(
             right.len(),
             relation.as_ptr(),
             relation.len(),
+            output.as_mut_ptr(),
+            output.len(),
+            answer.as_mut_ptr(),
+            answer.len(),
+        )
+    }
+}
+
+/// What an enquiry hands to the commit: the lengths of the three files and that of the
+/// certificate, or zeros where the enquiry was refused. Only an enquiry makes one.
+#[derive(Clone, Copy, Debug, PartialEq, Eq)]
+pub struct Slip([u64; 4]);
+
+impl Slip {
+    /// The four numbers.
+    pub fn numbers(&self) -> [u64; 4] {
+        self.0
+    }
+}
+
+/// Says whether a certificate can be made, as `make` does with an output that is long enough,
+/// and gives the slip with which it is then made.
+pub fn enquire(left: &[u8], right: &[u8], relation: &[u8]) -> (Answer, Slip) {
+    let (mut answer, mut slip) = ([0; 6], [0; 4]);
+    let had_room = enquire_into(left, right, relation, &mut slip, &mut answer);
+    assert!(had_room, "six places and four are room enough");
+    (answer, Slip(slip))
+}
+
+/// Enquires, and puts the slip into the first four places of `slip` and the six numbers into
+/// the first six of `answer`. Where either has fewer, nothing is written and the result is
+/// false.
+pub fn enquire_into(
+    left: &[u8],
+    right: &[u8],
+    relation: &[u8],
+    slip: &mut [u64],
+    answer: &mut [u64],
+) -> bool {
+    // SAFETY: each pointer comes with its slice's length, the slices live through
+    // the call, `slip` and `answer` are borrowed for it alone, and nothing is kept.
+    unsafe {
+        stutter_enquire(
+            left.as_ptr(),
+            left.len(),
+            right.as_ptr(),
+            right.len(),
+            relation.as_ptr(),
+            relation.len(),
+            slip.as_mut_ptr(),
+            slip.len(),
+            answer.as_mut_ptr(),
+            answer.len(),
+        )
+    }
+}
+
+/// Makes as `make` does, where the slip is that of an enquiry with files of these lengths and
+/// a certificate of this length. On a refusal `output` stays as it was.
+pub fn commit(left: &[u8], right: &[u8], relation: &[u8], slip: Slip, output: &mut [u8]) -> Answer {
+    commit_with(left, right, relation, &slip.0, output)
+}
+
+/// The same with any numbers as the slip, for tests. Of more than four the first four count;
+/// fewer are not taken.
+pub fn commit_with(
+    left: &[u8],
+    right: &[u8],
+    relation: &[u8],
+    slip: &[u64],
+    output: &mut [u8],
+) -> Answer {
+    let mut answer = [0; 6];
+    let had_room = commit_into(left, right, relation, slip, output, &mut answer);
+    assert!(had_room, "a slip has four places");
+    answer
+}
+
+/// Commits, and puts the six numbers into the first six places of `answer`. Where it has
+/// fewer, or the slip fewer than four, nothing is written, `output` stays as it was, and the
+/// result is false.
+pub fn commit_into(
+    left: &[u8],
+    right: &[u8],
+    relation: &[u8],
+    slip: &[u64],
+    output: &mut [u8],
+    answer: &mut [u64],
+) -> bool {
+    // SAFETY: each pointer comes with its slice's length, the slices live through
+    // the call, `output` and `answer` are borrowed for it alone, and nothing is kept.
+    unsafe {
+        stutter_commit(
+            left.as_ptr(),
+            left.len(),
+            right.as_ptr(),
+            right.len(),
+            relation.as_ptr(),
+            relation.len(),
+            slip.as_ptr(),
+            slip.len(),
             output.as_mut_ptr(),
             output.len(),
             answer.as_mut_ptr(),
