@@ -3,6 +3,7 @@
 
 use compare::{Block, Given};
 use inputs::{FollowCases, JudgeCases, MakeCases, WriteCase, WriteCases};
+use std::collections::BTreeSet;
 use std::fs;
 use std::os::unix::fs::symlink;
 use std::path::{Path, PathBuf};
@@ -24,12 +25,25 @@ impl Room {
 
     /// Compiles this example.
     fn new(example: &str) -> Room {
+        Room::compiled(example, &[])
+    }
+
+    /// Compiles this example so that it tells what it sets aside and how it commits.
+    fn telling(example: &str) -> Room {
+        let telling = repository().join("rust/stutter/tests/shared/telling.c");
+        let wrap = "-Wl,--wrap=malloc,--wrap=stutter_commit";
+        Room::compiled(example, &[wrap, &telling.display().to_string()])
+    }
+
+    /// Compiles this example with further words for the compiler.
+    fn compiled(example: &str, further: &[&str]) -> Room {
         let (room, repository) = (Room::empty(), repository());
         let compiled = Command::new("cc")
             .args(["-std=c11", "-Wall", "-Wextra", "-Wpedantic", "-Werror"])
             .arg("-I")
             .arg(repository.join("include"))
             .arg(repository.join(format!("examples/{example}.c")))
+            .args(further)
             .arg(repository.join("target/staticlib/libstutter.a"))
             .arg("-o")
             .arg(room.0.join("program"))
@@ -98,20 +112,35 @@ fn the_judge_in_c_equals_the_oracle() {
     }
 }
 
-/// Its output has room for every certificate, so 21 is never the answer.
+/// It enquires first. Where a certificate can be made, it sets aside as many bytes as this
+/// has, commits with them and the slip, and writes them to the file; otherwise it sets none
+/// aside and writes no file.
 #[test]
 fn the_maker_in_c_equals_the_oracle() {
-    let room = Room::new("make");
+    let room = Room::telling("make");
     let path = room.path("certificate");
-    for case in MakeCases::new(42, 300) {
+    let mut seen = BTreeSet::new();
+    for case in MakeCases::new(42, 1_000) {
         let files = [&case.left[..], &case.right, &case.relation];
-        let mut output = vec![0; 41_483];
-        let expected = oracle::make(files[0], files[1], files[2], &mut output);
+        let (enquired, slip) = oracle::enquire(files[0], files[1], files[2]);
         let words = [room.put(files), vec![path.clone()]].concat();
-        assert_eq!(room.run(&words), printed(expected));
-        let certificate = (expected[0] == 0).then(|| output[..expected[2] as usize].to_vec());
+        let output = room.call(&words);
+        assert_eq!(printed_by(&output), printed(enquired));
+        let (mut certificate, mut told) = (None, String::new());
+        if enquired[0] == 0 {
+            let length = enquired[2] as usize;
+            let mut made = vec![0; length];
+            oracle::make(files[0], files[1], files[2], &mut made);
+            certificate = Some(made);
+            let slip = slip.map(|number| number.to_string()).join(" ");
+            told = format!("set aside {length}\nslip {slip}, output {length}\n");
+        }
+        assert_eq!(String::from_utf8_lossy(&output.stderr), told);
         assert_eq!(room.take(&path), certificate);
+        seen.insert(enquired[0]);
     }
+    let refusals = (1..=9).chain([15, 16, 17, 20, 22, 23, 24, 28]);
+    assert!(seen.into_iter().eq([0].into_iter().chain(refusals)));
 }
 
 /// The words for marks, starts and steps: lists with commas.
