@@ -1,5 +1,5 @@
-//! Runs the comparisons of the oracle with its tuned judge, maker, follower and writer and
-//! with itself at full length, and prints their times and what was seen.
+//! Runs the comparisons of the oracle with its tuned judge, maker, enquiry, commit, follower
+//! and writer and with itself at full length, and prints their times and what was seen.
 
 use std::time::Instant;
 
@@ -9,6 +9,12 @@ fn main() {
     });
     run("100,000 inputs, plain maker and tuned maker", || {
         compare::make(100_000, 2, oracle::tuned_maker::make)
+    });
+    run("100,000 inputs, plain enquiry and tuned enquiry", || {
+        compare::enquire(100_000, 7, oracle::tuned_maker::enquire)
+    });
+    run("100,000 inputs, plain commit and tuned commit", || {
+        compare::commit(100_000, 8, oracle::tuned_maker::commit)
     });
     run("100,000 inputs, plain follower and tuned follower", || {
         compare::follow(100_000, 5, oracle::tuned_follow::follow)

@@ -3,15 +3,20 @@
 
 mod accepted;
 mod answers_seen;
+mod commit;
+mod enquire;
 mod follow;
 mod functions;
 mod listing;
+mod make;
 mod marks_seen;
 mod matching;
 mod names;
 mod path_property;
+mod promised;
 mod report;
 mod runs_seen;
+mod slips_seen;
 mod starts_seen;
 mod tables;
 mod worked;
@@ -20,16 +25,19 @@ mod writes_seen;
 
 pub use accepted::Accepted;
 use answers_seen::Files;
+pub use commit::commit;
+pub use enquire::enquire;
 pub use follow::follow;
 pub use functions::Functions;
-use inputs::{JudgeCases, MakeCases, ProgramCases, Random, PROGRAM_FORMS, VERSIONS};
+use inputs::{JudgeCases, ProgramCases, PROGRAM_FORMS, VERSIONS};
 pub use listing::listing;
+pub use make::{make, make_in};
 pub use matching::{Block, Given};
 use names::{limit_names, size_names};
 pub use path_property::Implementation;
+pub use promised::EnquiryAndCommit;
 pub use report::Report;
-use tables::{states, steps};
-pub use worked::require_worked_tables;
+pub use worked::{require_worked_enquiries, require_worked_tables};
 pub use write::write;
 
 type Answer = [u64; 6];
@@ -88,124 +96,6 @@ pub fn judge_in(
         }
     }
     report
-}
-
-/// Compares a maker with the oracle's on `count` inputs: the six numbers and
-/// every byte of the output. The lent output is filled with a pattern; what a
-/// refusal must not touch and what stands after L is compared with that pattern,
-/// and each certificate made is handed to the oracle's judge.
-pub fn make(
-    count: usize,
-    seed: u64,
-    under_test: impl FnMut(&[u8], &[u8], &[u8], &mut [u8]) -> Answer,
-) -> Report {
-    make_in(VERSIONS, count, seed, under_test)
-}
-
-/// The same on tables of these versions.
-pub fn make_in(
-    versions: &'static [u16],
-    count: usize,
-    seed: u64,
-    mut under_test: impl FnMut(&[u8], &[u8], &[u8], &mut [u8]) -> Answer,
-) -> Report {
-    let mut required = answers_seen::required("made", versions, [15, 20, 21, 22, 23]);
-    required.extend(RUNS.map(|run| format!("made, {run} rank above 0")));
-    required.extend(RUNS.map(|run| format!("made, {run} rank of 63")));
-    required.extend(["made, output exact", "made, output longer"].map(String::from));
-    required.push("21, one byte short".to_string());
-    required.push(LARGEST.to_string());
-    required.extend(limit_names("made"));
-    required.extend(starts_seen::required_of_large("made", versions));
-    required.extend(marks_seen::required_of_functions("made", versions));
-    let mut report = Report::new(required);
-    let mut random = Random::new(!seed);
-
-    for case in MakeCases::in_versions(versions, seed, count) {
-        let (left, right, relation) = (&case.left, &case.right, &case.relation);
-        let pattern = random.bytes(case.output_length);
-        let mut expected_output = pattern.clone();
-        let mut output = pattern.clone();
-        let expected = oracle::make(left, right, relation, &mut expected_output);
-        let found = under_test(left, right, relation, &mut output);
-        let written = if expected[0] == 0 { expected[2] } else { 0 } as usize;
-        assert!(
-            found == expected
-                && output == expected_output
-                && output[written..] == pattern[written..],
-            "the maker differs ({})\nexpected {expected:?}\nfound    {found:?}\n\
-             left     {}\nright    {}\nrelation {}\nlent     {}\nexpected {}\nfound    {}",
-            case.label,
-            hex(left),
-            hex(right),
-            hex(relation),
-            hex(&pattern),
-            hex(&expected_output),
-            hex(&output),
-        );
-
-        report.see_label(case.label);
-        let rows = &relation[..];
-        answers_seen::see(&mut report, "made", expected, Files { left, right, rows });
-        if expected[0] == 21 && case.output_length as u64 + 1 == expected[2] {
-            report.see("21, one byte short");
-        }
-        if expected[0] == 0 {
-            let certificate = &output[..written];
-            let judged = oracle::judge(left, right, certificate);
-            assert!(
-                judged[0] == 0,
-                "the judge answers {judged:?} to a certificate made ({})\n\
-                 left        {}\nright       {}\ncertificate {}",
-                case.label,
-                hex(left),
-                hex(right),
-                hex(certificate),
-            );
-            see_made(&mut report, left, right, certificate, output.len());
-        }
-    }
-    report
-}
-
-/// Every pair of 64 and 64 states related, and 256 steps on both sides.
-const LARGEST: &str = "made, all pairs of the largest tables";
-
-/// The four runs of ranks.
-const RUNS: [&str; 4] = ["AL", "AR", "CL", "CR"];
-
-fn see_made(
-    report: &mut Report,
-    left: &[u8],
-    right: &[u8],
-    certificate: &[u8],
-    output_length: usize,
-) {
-    let exact = output_length == certificate.len();
-    report.see(format!(
-        "made, output {}",
-        if exact { "exact" } else { "longer" }
-    ));
-    for size in [size_names("made", left), size_names("made", right)].concat() {
-        report.see(size);
-    }
-    let (n1, n2) = (states(left), states(right));
-    let m1 = steps(left).count();
-    let (rows, mut rest) = certificate[11..].split_at(8 * n1);
-    if certificate.len() == 41_483 && rows.iter().all(|&byte| byte == 0xff) {
-        report.see(LARGEST);
-    }
-    for (run, length) in RUNS.iter().zip([n1 * n2, n1 * n2, m1 * n2, usize::MAX]) {
-        let (ranks, after) = rest.split_at(length.min(rest.len()));
-        if ranks.iter().any(|&rank| rank > 0) {
-            report.see(format!("made, {run} rank above 0"));
-        }
-        // Ranks made are below the number of states, so this is the highest.
-        if ranks.contains(&63) {
-            report.see(format!("made, {run} rank of 63"));
-        }
-        rest = after;
-    }
 }
 
 /// Compares a program with the oracle's on `count` inputs. The closure is given

@@ -1,7 +1,8 @@
-//! The oracle beside the tuned judge, maker, follower and writer and beside itself, on enough
-//! inputs that every number, side, clause and limit is seen, and beside wrong ones.
+//! The oracle beside the tuned judge, maker, enquiry, commit, follower and writer and beside
+//! itself, on enough inputs that every number, side, clause, limit and slip is seen, and beside
+//! wrong ones.
 
-use compare::Accepted;
+use compare::{Accepted, EnquiryAndCommit};
 use inputs::{all_related, long_chains, long_distances};
 use oracle::Line;
 
@@ -18,6 +19,36 @@ fn the_tuned_maker_equals_the_plain_one() {
 #[test]
 fn the_relaxing_maker_equals_the_plain_one() {
     compare::make(30_000, 8, oracle::make_by_relaxing).require_all();
+}
+
+#[test]
+fn the_tuned_enquiry_equals_the_plain_one() {
+    compare::enquire(30_000, 15, oracle::tuned_maker::enquire).require_all();
+}
+
+#[test]
+fn the_relaxing_enquiry_equals_the_plain_one() {
+    compare::enquire(30_000, 16, oracle::enquire_by_relaxing).require_all();
+}
+
+#[test]
+fn the_tuned_commit_equals_the_plain_one() {
+    compare::commit(50_000, 17, oracle::tuned_maker::commit).require_all();
+}
+
+#[test]
+fn the_relaxing_commit_equals_the_plain_one() {
+    compare::commit(50_000, 18, oracle::commit_by_relaxing).require_all();
+}
+
+#[test]
+fn the_plain_enquiry_and_commit_do_as_promised() {
+    let plain = EnquiryAndCommit {
+        enquire: oracle::enquire,
+        commit: oracle::commit,
+        make: oracle::make,
+    };
+    plain.require_promised(10_000, 19).require_all();
 }
 
 #[test]
@@ -76,6 +107,10 @@ fn the_same_seed_gives_the_same_inputs() {
     assert_eq!(runs(4), runs(4));
     assert_ne!(runs(4), runs(5));
 
+    let commits = |seed| compare::commit(3_000, seed, oracle::tuned_maker::commit).seen;
+    assert_eq!(commits(4), commits(4));
+    assert_ne!(commits(4), commits(5));
+
     let tables = |seed| compare::write(3_000, seed, oracle::write).seen;
     assert_eq!(tables(4), tables(4));
     assert_ne!(tables(4), tables(5));
@@ -105,6 +140,18 @@ fn a_touched_output_is_found() {
 #[should_panic(expected = "never seen")]
 fn too_few_inputs_are_found() {
     compare::judge(20, 8, oracle::judge).require_all();
+}
+
+#[test]
+#[should_panic(expected = "never seen")]
+fn too_few_enquiries_are_found() {
+    compare::enquire(20, 8, oracle::enquire).require_all();
+}
+
+#[test]
+#[should_panic(expected = "never seen")]
+fn too_few_commits_are_found() {
+    compare::commit(20, 8, oracle::commit).require_all();
 }
 
 #[test]

@@ -1,10 +1,12 @@
-//! Inputs for the judge, the maker, the follower, the writer and the two programs: the same
-//! ones for the same seed. `JudgeCases`, `MakeCases`, `FollowCases`, `WriteCases`,
-//! `ProgramCases` and `ListingCases` are iterators over them.
+//! Inputs for the judge, the maker, the enquiry, the commit, the follower, the writer and the
+//! two programs: the same ones for the same seed. `JudgeCases`, `MakeCases`, which are also
+//! for the enquiry, `CommitCases`, `FollowCases`, `WriteCases`, `ProgramCases` and
+//! `ListingCases` are iterators over them.
 
 mod byte_edits;
 mod certificate_edits;
 mod certified;
+mod commit_cases;
 mod families;
 mod follow_cases;
 mod judge_cases;
@@ -14,6 +16,7 @@ mod marks;
 mod program_cases;
 mod random;
 mod run_edits;
+mod slips;
 mod spaced;
 mod split;
 mod starts;
@@ -24,6 +27,7 @@ mod walks;
 mod write_cases;
 mod write_edits;
 
+pub use commit_cases::{CommitCase, CommitCases, OF_EARLIER, OF_ENQUIRY, OF_INPUTS};
 pub use families::{all_related, any_system, long_chains, long_distances, long_waits};
 pub use follow_cases::{FollowCase, FollowCases};
 pub use judge_cases::{JudgeCase, JudgeCases};
@@ -32,6 +36,7 @@ pub use make_cases::{MakeCase, MakeCases};
 pub use program_cases::{joined, ProgramCase, ProgramCases, PROGRAM_FORMS};
 pub use random::Random;
 pub use run_edits::{Run, RUN_EDITS};
+pub use slips::{other_slips, slip_numbers};
 pub use spaced::spaced;
 pub use system::{relation_bytes, save_in, table_bytes, System, VERSIONS};
 pub use write_cases::{WriteCase, WriteCases};

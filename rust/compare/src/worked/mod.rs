@@ -1,11 +1,13 @@
-//! Tables of the later versions, written out byte by byte, and the answers to them and to
-//! what a writer is given, worked out by hand from the documents.
+//! Tables of the later versions, written out byte by byte, and the answers to them, to an
+//! enquiry and a commit, and to what a writer is given, worked out by hand from the documents.
 
+mod enquiries;
 mod marks;
 mod starts;
 mod tables;
 
 use crate::{hex, Answer};
+pub use enquiries::require_worked_enquiries;
 pub use tables::require_worked_tables;
 
 /// Two tables, a certificate, and what the judge answers.
