@@ -1,9 +1,9 @@
-//! Times the proved judge, maker, follower and writer and the listing program beside Rust
-//! versions, on the same inputs in one run. The versions take turns in every
+//! Times the proved judge, maker, enquiry, commit, follower and writer and the listing program
+//! beside Rust versions, on the same inputs in one run. The versions take turns in every
 //! round and the medians are compared, so that other load on the machine does not decide.
 
 use inputs::{all_related, long_chains, long_distances, long_waits, Random, System};
-use oracle::{Answer, Step, Table};
+use oracle::{Answer, Slip, Step, Table};
 use std::cell::RefCell;
 use std::env;
 use std::fs::{self, File};
@@ -15,6 +15,8 @@ use std::time::{Duration, Instant};
 
 type Judge = fn(&[u8], &[u8], &[u8]) -> Answer;
 type Make = fn(&[u8], &[u8], &[u8], &mut [u8]) -> Answer;
+type Enquire = fn(&[u8], &[u8], &[u8]) -> (Answer, Slip);
+type Commit = fn(&[u8], &[u8], &[u8], Slip, &mut [u8]) -> Answer;
 type Follow = fn(&[u8], &[u8], &[u8], u64, u64, &[u8], &mut [u8], &mut [u8]) -> Answer;
 type Write = fn(&[u32], u64, &[u16], &mut [u8]) -> Answer;
 
@@ -30,6 +32,37 @@ const MAKERS: [(&str, Make); 3] = [
     ("proved", stutter::make),
     ("plain maker of the same method", oracle::make_by_relaxing),
     ("tuned maker of the same method", oracle::tuned_maker::make),
+];
+
+/// The enquiries, the proved one first.
+const ENQUIRIES: [(&str, Enquire); 3] = [
+    ("proved", |left, right, relation| {
+        let (answer, slip) = stutter::enquire(left, right, relation);
+        (answer, slip.numbers())
+    }),
+    (
+        "plain enquiry of the same method",
+        oracle::enquire_by_relaxing,
+    ),
+    (
+        "tuned enquiry of the same method",
+        oracle::tuned_maker::enquire,
+    ),
+];
+
+/// The commits, the proved one first.
+const COMMITS: [(&str, Commit); 3] = [
+    ("proved", |left, right, relation, slip, output| {
+        stutter::commit_with(left, right, relation, &slip, output)
+    }),
+    (
+        "plain commit of the same method",
+        oracle::commit_by_relaxing,
+    ),
+    (
+        "tuned commit of the same method",
+        oracle::tuned_maker::commit,
+    ),
 ];
 
 /// The followers, the proved one first.
@@ -83,10 +116,23 @@ fn main() {
     );
     judge("first check fails", &first_fails(), [17, 2, 0, 0, 0, 0]);
     judge("last check fails", &last_fails(), [18, 2, 1, 63, 63, 255]);
+    let shapes = [
+        ("all pairs related", all_related()),
+        ("chains of 63 steps", long_chains()),
+        ("distances of 63 steps", long_distances()),
+    ];
     println!("the maker");
-    make("all pairs related", &all_related());
-    make("chains of 63 steps", &long_chains());
-    make("distances of 63 steps", &long_distances());
+    for (name, system) in &shapes {
+        make(name, system);
+    }
+    println!("the enquiry");
+    for (name, system) in &shapes {
+        enquire(name, system);
+    }
+    println!("the commit");
+    for (name, system) in &shapes {
+        commit(name, system);
+    }
     println!("the follower");
     let (ring, path) = (long_waits(), [0, 1].repeat(128));
     let name = "256 states of a table of 2 on a ring of 64";
@@ -126,26 +172,84 @@ fn judge(name: &'static str, system: &System, answer: Answer) {
 
 /// The makers on this system, for which a certificate is made.
 fn make(name: &'static str, system: &System) {
-    let (left, right) = (&system.left_bytes(), &system.right_bytes());
-    let relation = &system.relation_bytes();
+    make_by(
+        name,
+        system,
+        MAKERS,
+        |make, [left, right, relation], output| make(left, right, relation, output),
+    );
+}
+
+/// The commits on this system, for which a certificate is made, with the enquiry's slip.
+fn commit(name: &'static str, system: &System) {
+    let [left, right, relation] = files(system);
+    let (_, slip) = oracle::enquire(&left, &right, &relation);
+    make_by(
+        name,
+        system,
+        COMMITS,
+        |commit, [left, right, relation], output| {
+            commit(left, right, relation, black_box(slip), output)
+        },
+    );
+}
+
+/// Whatever makes a certificate for this system, by how each is called.
+fn make_by<F: Copy>(
+    name: &'static str,
+    system: &System,
+    versions: [(&'static str, F); 3],
+    make: impl Fn(F, [&[u8]; 3], &mut [u8]) -> Answer,
+) {
+    let files = files(system);
     let (answer, certificate) = system.make();
     let output = &RefCell::new(vec![0; certificate.len()]);
-    let call = |make: Make| {
-        let (left, right) = (black_box(left), black_box(right));
+    let call = |version: F| {
         let output = &mut output.borrow_mut()[..];
-        black_box(make(left, right, black_box(relation), black_box(output)))
+        let files = files.each_ref().map(|file| &black_box(file)[..]);
+        black_box(make(version, files, black_box(output)))
     };
-    for (version, make) in MAKERS {
+    for (version, make) in versions {
         output.borrow_mut().fill(0xa5);
         assert_eq!(call(make), answer, "{name}, {version}");
         assert!(*output.borrow() == certificate, "{name}, {version}");
     }
+    let call = &call;
     let timed = |(version, make)| (version, boxed(move || call(make)));
     report(&Contest {
         name,
         work: obligations(system),
-        calls: MAKERS.map(timed).into(),
+        calls: versions.map(timed).into(),
     });
+}
+
+/// The enquiries on this system, for which a certificate can be made.
+fn enquire(name: &'static str, system: &System) {
+    let files = &files(system);
+    let call = |enquire: Enquire| {
+        let [left, right, relation] = black_box(files);
+        black_box(enquire(left, right, relation))
+    };
+    let expected = call(oracle::enquire);
+    assert_eq!(expected.0[0], 0, "{name}");
+    for (version, enquire) in ENQUIRIES {
+        assert_eq!(call(enquire), expected, "{name}, {version}");
+    }
+    let timed = |(version, enquire)| (version, boxed(move || call(enquire)));
+    report(&Contest {
+        name,
+        work: obligations(system),
+        calls: ENQUIRIES.map(timed).into(),
+    });
+}
+
+/// Both tables and the relation.
+fn files(system: &System) -> [Vec<u8>; 3] {
+    [
+        system.left_bytes(),
+        system.right_bytes(),
+        system.relation_bytes(),
+    ]
 }
 
 /// The followers on this run of the left table, which is followed from the right state 0.
