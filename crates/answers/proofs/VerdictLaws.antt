@@ -213,6 +213,10 @@ module _ {A : Type 0} {Good : A → Type 0} where
   pub on-none : {causes : List Cause} {v : Verdict A} {x : A} → v ≡ goOn x → Decided Good causes v → Good x × NoCause causes
   on-none {causes} e d = subst (Decided Good causes) e d .by
 
+  -- where it refuses, the first cause that applies has its numbers
+  pub refused-first : {causes : List Cause} {v : Verdict A} {a : Answer} → v ≡ refusedWith a → Decided Good causes v → FirstCause causes a
+  refused-first {causes} e d = subst (Decided Good causes) e d .by
+
 -- one test: of the cause, and of what the cause fails; and the room of an output
 pub decided-pass : (test : Bool) {P : Type 0} {a : Answer} → Decides test P → Decided Anything (P gives a ∷ []) (passIf (not test) a)
 decided-pass true d = record { by = inl (d .sound tt, refl) }

@@ -14,3 +14,4 @@ pub mod OutputLaws
 pub mod NextLaws
 pub mod FollowExact
 pub mod WriterExact
+pub mod EnquiryExact

@@ -16,9 +16,10 @@ use Rattle.table_reader.proofs.TableCauseLaws.{good-formed, none-good}
 use Rattle.certificates.specs.Layout.{sizesOf, certificateLength}
 use Rattle.certificates.specs.CertificateModel.{AreBytes}
 use Rattle.certificate_reader.specs.CertificateCauses.{relationCauses}
+use Rattle.inputs.specs.InputCauses.{inputCauses}
 use Rattle.ranking.specs.Make.{makeVerdict, fileFor, makeAnswer, makeOutput}
 use Rattle.ranking.specs.MakerCauses.{makerCauses, makerNumber}
-use Rattle.ranking.proofs.MakerCauseLaws.{maker-decided, afterRelation, afterRight, afterLeft, maker-numbers}
+use Rattle.ranking.proofs.MakerCauseLaws.{maker-decided, maker-numbers}
 use Rattle.demands.specs.Demand1.{Made, MakerAnswers}
 use Rattle.demands.specs.Demand2.{WellFormedInputs}
 
@@ -36,7 +37,7 @@ module _ (left right relation output : List ℕ) where
         record {
           answers =
               decided-answer (Made left right) (λ x. sixNumbers 0 0 (certificateLength (sizesOf left right)))
-              (makeVerdict left right relation output) (maker-decided left right relation output bytes) (λ x e n. refl);
+              (makeVerdict left right relation output) (maker-decided left right relation bytes output) (λ x e n. refl);
           untouched = untouched;
         }
 
@@ -57,14 +58,14 @@ module _ (left right relation output : List ℕ) where
     pub made-given : makeAnswer left right relation output .code ≡ 0
         → WellFormedInputs left right relation × (certificateLength (sizesOf left right) ≤ length output)
     made-given e =
-        let a = append-none (tableCauses 0 left) (afterLeft left right relation output) (zero-made e .0) in
-        let b = append-none (tableCauses 1 right) (afterRight left right relation output) (a .1) in
-        let c = append-none (relationCauses 2 (sizesOf left right) relation) (afterRelation left right relation output) (b .1) in
-        let room = c .1 .0 in (
+        let n = append-none (inputCauses left right relation) _ (zero-made e .0) in
+        let t = append-none (tableCauses 0 left) _ (n .0) in
+        let r = append-none (tableCauses 1 right) (relationCauses 2 (sizesOf left right) relation) (t .1) in
+        let room = n .1 .0 in (
           record {
-            left-formed = a .0;
-            right-formed = good-formed right (none-good 1 right (b .0));
-            relation-formed = c .0;
+            left-formed = t .0;
+            right-formed = good-formed right (none-good 1 right (r .0));
+            relation-formed = r .1;
             relation-bytes = bytes;
           },
           omega arith,

@@ -29,7 +29,7 @@ use Rattle.starts.specs.StartsNamed.{startsNamed}
 use Rattle.files.specs.File.{certificateHeader, certificateFile}
 use Rattle.files.proofs.FileLaws.{file-length, file-rows, file-ranks}
 use Rattle.examination.proofs.ExamineLaws.{examined-succeeds}
-use Rattle.ranking.specs.Make.{madeVerdict, makeVerdict, fileFor, makeAnswer, makeOutput}
+use Rattle.ranking.specs.Make.{examinedVerdict, makeVerdict, fileFor, makeAnswer, makeOutput}
 use Rattle.inputs.proofs.InputLaws.{read-inputs}
 use Rattle.ranking.proofs.MakeAnswers.{made-by, room-verdict}
 use Rattle.ranking.proofs.MakerCauseLaws.{maker-decided}
@@ -45,8 +45,8 @@ module _ (left right relation output : List ℕ) (given : WellFormedInputs left 
     (room : certificateLength (sizesOf left right) ≤ length output) where
   -- ---- all is read, so the answer is that of the examination
 
-  examined-iff : (madeVerdict left right relation ≡ passed) ↔ T (succeeds (viewOf left right relation))
-  unfolding madeVerdict
+  examined-iff : (examinedVerdict left right relation ≡ passed) ↔ T (succeeds (viewOf left right relation))
+  unfolding examinedVerdict
   examined-iff =
       let r = given-read left right relation given in
       examined-succeeds (viewOf left right relation) (given-formed left right relation given) (startsNamed left right)
@@ -57,16 +57,16 @@ module _ (left right relation output : List ℕ) (given : WellFormedInputs left 
 
   -- the maker goes on to the end exactly where the theory's succeeds
   succeeds-passed : T (succeeds (viewOf left right relation)) → makeVerdict left right relation output ≡ passed
-  succeeds-passed h = room-verdict left right relation output (read-inputs left right relation (given-read left right relation given)) room ∙ examined-iff .1 h
+  succeeds-passed h = room-verdict left right relation (read-inputs left right relation (given-read left right relation given)) output room ∙ examined-iff .1 h
 
   zero-passed : makeAnswer left right relation output .code ≡ 0 → makeVerdict left right relation output ≡ passed
   zero-passed z =
-      none-on (makeVerdict left right relation output) (maker-decided left right relation output (given .relation-bytes))
+      none-on (makeVerdict left right relation output) (maker-decided left right relation (given .relation-bytes) output)
       (zero-made left right relation output (given .relation-bytes) z .0) .1
 
   zero-succeeds : makeAnswer left right relation output .code ≡ 0 → T (succeeds (viewOf left right relation))
   zero-succeeds z =
-      examined-iff .0 (sym (room-verdict left right relation output (read-inputs left right relation (given-read left right relation given)) room)
+      examined-iff .0 (sym (room-verdict left right relation (read-inputs left right relation (given-read left right relation given)) output room)
       ∙ zero-passed z)
 
   -- ---- the file

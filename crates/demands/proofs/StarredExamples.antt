@@ -54,7 +54,7 @@ use Rattle.starts.specs.StartsVerdict.{unpaired, unpairedVerdict, startsVerdict
 use Rattle.files.specs.File.{certificateHeader, certificateFile}
 use Rattle.examination.specs.Examine.{examined, makerVerdict, verdictBy, mayKeep, endlessAt, firstChain, endless}
 use Rattle.inputs.specs.Inputs.{readVerdict}
-use Rattle.ranking.specs.Make.{fileFor, madeVerdict, makeVerdict, makeAnswer, makeOutput}
+use Rattle.ranking.specs.Make.{fileFor, examinedVerdict, verdictWith, makeAnswer, makeOutput}
 use Rattle.checker.specs.Judge.{pairsIn, judged, judgedBytes, judgeVerdict, judgeAnswer}
 use Rattle.demands.specs.Demand2.{WellFormedInputs}
 use Rattle.lister.specs.Listing.{checkLines, listing, listingOf}
@@ -91,7 +91,7 @@ unfolding
     joinBelow stepsFrom pairChecks checksBy checks along startsNamed startsVerdict checkVerdict pairsIn judged judgedBytes judgeVerdict judgeAnswer
     readRelation roomVerdict examined firstOf makerVerdict verdictBy mayKeep endlessAt firstChain endless
     matchesWithin matched distance mayChain chainAlong stutterRank matchRank mostBelow
-    readVerdict madeVerdict makeVerdict makeAnswer makeOutput fileFor certificateHeader certificateFile bigBytes tabulate grid putAt putFront
+    readVerdict examinedVerdict verdictWith makeAnswer makeOutput fileFor certificateHeader certificateFile bigBytes tabulate grid putAt putFront
 starred = (refl, refl, refl, refl, refl, refl, refl, refl, refl)
 
 -- Q that starts at 0 or at 1 is as good as Q: both are related to P's start. Where it starts at 0 or at 2, the right start 2 is unpaired; with row 0 of 2
@@ -114,7 +114,7 @@ unfolding
     joinBelow stepsFrom pairChecks checksBy checks along startsNamed unpaired unpairedVerdict startsVerdict checkVerdict
     pairsIn judged judgedBytes judgeVerdict judgeAnswer readRelation roomVerdict examined firstOf makerVerdict verdictBy mayKeep endlessAt firstChain endless
     matchesWithin matched distance mayChain chainAlong stutterRank matchRank mostBelow
-    readVerdict madeVerdict makeVerdict makeAnswer makeOutput fileFor certificateHeader certificateFile bigBytes tabulate grid putAt putFront
+    readVerdict examinedVerdict verdictWith makeAnswer makeOutput fileFor certificateHeader certificateFile bigBytes tabulate grid putAt putFront
 two-starts = (refl, refl, refl, refl, refl, refl, refl, refl, refl)
 
 -- document 02's six lines for P, Q and K
@@ -163,7 +163,7 @@ unfolding
     joinBelow stepsFrom pairChecks checksBy checks along startsNamed startsVerdict checkVerdict pairsIn judged judgedBytes judgeVerdict judgeAnswer
     readRelation roomVerdict examined firstOf makerVerdict verdictBy mayKeep endlessAt firstChain endless
     matchesWithin matched distance mayChain chainAlong stutterRank matchRank mostBelow
-    readVerdict madeVerdict makeVerdict makeAnswer makeOutput fileFor certificateHeader certificateFile bigBytes tabulate grid putAt putFront
+    readVerdict examinedVerdict verdictWith makeAnswer makeOutput fileFor certificateHeader certificateFile bigBytes tabulate grid putAt putFront
 made-K = (refl, refl, refl, refl, refl)
 
 -- P and Q with the rows 3 and 4 are well formed, and the relation has the path property: no hypothesis of the demands is empty

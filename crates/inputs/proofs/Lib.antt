@@ -1,2 +1,3 @@
 -- Laws of inputs.
 pub mod InputLaws
+pub mod InputCauseLaws

@@ -1,2 +1,3 @@
 -- Two tables and a relation, read together.
 pub mod Inputs
+pub mod InputCauses

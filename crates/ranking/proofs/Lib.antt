@@ -1,4 +1,4 @@
--- Laws of the maker: what was read, the two sides of it, and what its causes decide.
-pub mod MakeAnswers
+-- Laws of the maker, the enquiry and the commit: the two sides of what was read, what is answered, and what the causes decide.
 pub mod MakeSidesLaws
+pub mod MakeAnswers
 pub mod MakerCauseLaws

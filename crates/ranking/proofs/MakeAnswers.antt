@@ -1,41 +1,115 @@
--- The maker's answer and output by what was read: the refusal of a file, an output that is too short, or what is made of all three. Assumes nothing.
+-- The maker's, the enquiry's and the commit's answers by what was read: the refusal of a file, a slip with another number, an output that is too short, or
+-- what the examination says. Assumes nothing.
 use Prim.Native.Nat.{ℕ, _≤_, _<_}
-use mathlib.Core.Path.{_≡_, sym, ap}
+use mathlib.Core.Path.{_≡_, refl, sym, ap, _∙_, subst}
+use mathlib.Core.Bool.{true, false}
 use mathlib.Core.List.{List}
 use lib.ListN.{length}
 use borrow.Author.Tests.{lt-ltb, le-ltb}
+use Rattle.lists.specs.Lists.{putFront}
 use Rattle.answers.specs.Numbers.{sixNumbers}
-use Rattle.answers.specs.Verdicts.{Verdict, goOn, refusedWith, roomVerdict, outputAfter}
+use Rattle.answers.specs.Verdicts.{Verdict, goOn, refusedWith, _andThen_, passed, roomVerdict, outputAfter, asChecked}
 use Rattle.answers.specs.declared.Answer.{Answer}
-use Rattle.certificates.specs.Layout.{sizesOf, certificateLength}
+use Rattle.answers.specs.declared.Checked.{Checked}
+use Rattle.answers.specs.declared.Checked.the-variants.{Passed, Refused}
+use Rattle.answers.proofs.CheckedLaws.{was-passed, was-refused}
 use Rattle.inputs.specs.declared.Heads.{Heads}
 use Rattle.inputs.specs.Inputs.{readVerdict}
-use Rattle.ranking.specs.Make.{madeVerdict, makeVerdict, fileFor, answerAfter, makeAnswer, makeOutput}
+use Rattle.ranking.specs.declared.Slip.{Slip}
+use Rattle.ranking.specs.declared.Enquiry.{Enquiry}
+use Rattle.ranking.specs.Make.{examinedVerdict, verdictWith, lengthFor, makeVerdict, fileFor, answerAfter, makeAnswer, makeOutput}
+use Rattle.ranking.specs.Enquire.{slipFor, blankSlip, sameSlip, slipVerdict, enquiryVerdict, enquiryAfter, enquiryFor}
+use Rattle.ranking.specs.Enquire.{commitVerdict, commitAnswer, commitOutput}
 
-module _ (left right relation output : List ℕ) where
-  -- the answer and the output are those of the verdict
-  pub made-by : {v : Verdict (Unit {0})} → makeVerdict left right relation output ≡ v
-      → (answerAfter left right v ≡ makeAnswer left right relation output)
-      × (outputAfter v (fileFor left right relation) output ≡ makeOutput left right relation output)
-  unfolding makeAnswer makeOutput
-  made-by e = (ap (answerAfter left right) (sym e), ap (λ (v : Verdict (Unit {0})). outputAfter v (fileFor left right relation) output) (sym e))
+module _ (left right relation : List ℕ) where
+  -- ---- by their verdicts
 
-  pub not-read : {a : Answer} → readVerdict left right relation ≡ refusedWith a
-      → (a ≡ makeAnswer left right relation output) × (output ≡ makeOutput left right relation output)
-  unfolding makeVerdict
-  not-read {a} e =
-      let v : makeVerdict left right relation output ≡ refusedWith a = rw e in
-      made-by v
+  pub enquired-by : {v : Verdict (Unit {0})} → enquiryVerdict left right relation ≡ v → enquiryAfter left right relation v ≡ enquiryFor left right relation
+  unfolding enquiryFor
+  enquired-by e = ap (enquiryAfter left right relation) (sym e)
+
+  module _ (output : List ℕ) where
+    abbrev pub outputBy : Verdict (Unit {0}) → List ℕ
+    outputBy v = outputAfter v (fileFor left right relation) output
+
+    pub made-by : {v : Verdict (Unit {0})} → makeVerdict left right relation output ≡ v
+        → (answerAfter left right v ≡ makeAnswer left right relation output) × (outputBy v ≡ makeOutput left right relation output)
+    unfolding makeAnswer makeOutput
+    made-by e = (ap (answerAfter left right) (sym e), ap outputBy (sym e))
+
+    module _ (slip : Slip) where
+      pub committed-by : {v : Verdict (Unit {0})} → commitVerdict left right relation slip output ≡ v
+          → (answerAfter left right v ≡ commitAnswer left right relation slip output) × (outputBy v ≡ commitOutput left right relation slip output)
+      unfolding commitAnswer commitOutput
+      committed-by e = (ap (answerAfter left right) (sym e), ap outputBy (sym e))
+
+      -- with the true slip the commit is the maker
+      pub commit-make : sameSlip slip (slipFor left right relation) ≡ true
+          → (makeAnswer left right relation output ≡ commitAnswer left right relation slip output)
+          × (makeOutput left right relation output ≡ commitOutput left right relation slip output)
+      unfolding commitAnswer commitOutput makeAnswer makeOutput slipVerdict
+      commit-make e = rw e (refl, refl)
+
+  -- ---- by what was read
+
+  -- a file that is not read is refused, whatever is asked after it
+  pub not-read : (between : Verdict (Unit {0})) {a : Answer} → readVerdict left right relation ≡ refusedWith a
+      → verdictWith between left right relation ≡ refusedWith a
+  unfolding verdictWith
+  not-read between e = rw e
 
   module _ {h : Heads} (read : readVerdict left right relation ≡ goOn h) where
-    pub too-short : {L : ℕ} → L ≡ certificateLength (sizesOf left right) → length output < L
-        → (sixNumbers 21 3 L ≡ makeAnswer left right relation output) × (output ≡ makeOutput left right relation output)
-    unfolding makeVerdict roomVerdict
-    too-short {L} e l =
-        let v : makeVerdict left right relation output ≡ refusedWith (sixNumbers 21 3 L) = rw (read, ← e, lt-ltb (length output) L l) in
-        made-by v
+    -- where all is read, what is asked next, and then the examination
+    pub when-read : (between : Verdict (Unit {0})) → verdictWith between left right relation ≡ (between andThen λ x. examinedVerdict left right relation)
+    unfolding verdictWith
+    when-read between = rw read
 
-    -- where there is room, the verdict is that of the examination
-    pub room-verdict : certificateLength (sizesOf left right) ≤ length output → makeVerdict left right relation output ≡ madeVerdict left right relation
-    unfolding makeVerdict roomVerdict
-    room-verdict l = rw (read, le-ltb (length output) (certificateLength (sizesOf left right)) l)
+    module _ (output : List ℕ) where
+      pub room-verdict : lengthFor left right ≤ length output → makeVerdict left right relation output ≡ examinedVerdict left right relation
+      unfolding verdictWith roomVerdict
+      room-verdict l = rw (read, le-ltb (length output) (lengthFor left right) l)
+
+      pub too-short : {L : ℕ} → L ≡ lengthFor left right → length output < L
+          → (sixNumbers 21 3 L ≡ makeAnswer left right relation output) × (output ≡ makeOutput left right relation output)
+      unfolding verdictWith roomVerdict
+      too-short {L} e l =
+          let v : makeVerdict left right relation output ≡ refusedWith (sixNumbers 21 3 L) = rw (read, ← e, lt-ltb (length output) L l) in
+          made-by output v
+
+      pub other-slip : (slip : Slip) → sameSlip slip (slipFor left right relation) ≡ false
+          → (sixNumbers 29 2 0 ≡ commitAnswer left right relation slip output) × (output ≡ commitOutput left right relation slip output)
+      unfolding verdictWith slipVerdict
+      other-slip slip e =
+          let v : commitVerdict left right relation slip output ≡ refusedWith (sixNumbers 29 2 0) = rw (read, e) in
+          committed-by output slip v
+
+    -- ---- by what the examination says
+
+    module _ {x : Checked} (ex : x ≡ asChecked (examinedVerdict left right relation)) where
+      refuses : {a : Answer} → x ≡ Refused a → examinedVerdict left right relation ≡ refusedWith a
+      refuses q = was-refused _ _ (sym ex ∙ q)
+
+      passes : x ≡ Passed → examinedVerdict left right relation ≡ passed
+      passes q = was-passed _ (sym ex ∙ q)
+
+      pub enquiry-refused : {a : Answer} → x ≡ Refused a → _≡_ {A = Enquiry} (record { answer = a; slip = blankSlip }) (enquiryFor left right relation)
+      enquiry-refused q = enquired-by (when-read passed ∙ refuses q)
+
+      pub enquiry-passed : {s : Slip} → x ≡ Passed → s ≡ slipFor left right relation
+          → _≡_ {A = Enquiry} (record { answer = sixNumbers 0 0 (s .certificate); slip = s }) (enquiryFor left right relation)
+      enquiry-passed q e =
+          ap (λ (s : Slip). record { answer = sixNumbers 0 0 (s .certificate); slip = s }) e ∙ enquired-by (when-read passed ∙ passes q)
+
+      module _ (output : List ℕ) {L : ℕ} (e : L ≡ lengthFor left right) (room : L ≤ length output) where
+        has-room : lengthFor left right ≤ length output
+        has-room = subst (λ (n : ℕ). n ≤ length output) e room
+
+        pub make-refused : {a : Answer} → x ≡ Refused a
+            → (a ≡ makeAnswer left right relation output) × (output ≡ makeOutput left right relation output)
+        make-refused q = made-by output (room-verdict output has-room ∙ refuses q)
+
+        pub make-passed : {out : List ℕ} → x ≡ Passed → out ≡ putFront (fileFor left right relation) output
+            → (sixNumbers 0 0 L ≡ makeAnswer left right relation output) × (out ≡ makeOutput left right relation output)
+        make-passed q f =
+            let made = made-by output (room-verdict output has-room ∙ passes q) in
+            (ap (sixNumbers 0 0) e ∙ made .0, f ∙ made .1)

@@ -1,16 +1,14 @@
 -- Two tables and a relation that are read, as two sides: what is made of the sides is what the theory makes of the view that the bytes give. Assumes nothing.
-use Prim.Native.Nat.{ℕ, _*_, _≤_, _<_}
+use Prim.Native.Nat.{ℕ, _*_, _<_}
 use mathlib.Core.Path.{_≡_, refl, sym, ap, ap₂, _∙_, subst}
 use mathlib.Core.List.{List}
 use native.Mathlib.Omega.{arith}
 use lib.ListN.{length}
 use borrow.Author.Tests.{eq-eqb}
 use Rattle.lists.specs.Lists.{putFront}
-use Rattle.bisimulation.specs.Systems.{System, View, WellFormed, flip}
+use Rattle.bisimulation.specs.Systems.{System, View, Ranks, WellFormed, flip}
 use Rattle.bisimulation.specs.Maker.{stutterRank, matchRank, made}
-use Rattle.answers.specs.Numbers.{sixNumbers}
-use Rattle.answers.specs.Verdicts.{Verdict, goOn, refusedWith, answerOf, outputAfter, asChecked}
-use Rattle.answers.specs.declared.Answer.{Answer}
+use Rattle.answers.specs.Verdicts.{Verdict, goOn, asChecked}
 use Rattle.tables.specs.declared.Head.{Head}
 use Rattle.tables.specs.Table.{statesOf, labelsPart, stepsPart}
 use Rattle.tables.specs.Model.{systemOf}
@@ -33,18 +31,15 @@ use Rattle.rank_grids.proofs.RankGridLaws.{stutter-by-chains, match-by-table}
 use Rattle.files.specs.File.{certificateFile}
 use Rattle.files.specs.Writer.{cellIn, ranksIn, fileWritten}
 use Rattle.files.proofs.FileLaws.{RanksAgree, file-same}
-use Rattle.answers.specs.declared.Checked.{Checked}
-use Rattle.answers.specs.declared.Checked.the-variants.{Passed, Refused}
 use Rattle.examination.specs.Examine.{examined}
 use Rattle.examination.specs.OnSides.{examinedIn}
-use Rattle.answers.proofs.CheckedLaws.{was-passed, was-refused}
 use Rattle.examination.proofs.MeasuredLaws.{examination-is}
 use Rattle.inputs.specs.Inputs.{InputsRead, readVerdict}
 use Rattle.inputs.proofs.InputLaws.{inputs-read}
-use Rattle.ranking.specs.Make.{fileFor, madeVerdict, makeAnswer, makeOutput}
 use Rattle.inputs.specs.declared.Heads.{Heads}
-use Rattle.ranking.specs.OnSides.{examinedOf, ranksMade, filledAfter}
-use Rattle.ranking.proofs.MakeAnswers.{made-by, room-verdict}
+use Rattle.ranking.specs.declared.Slip.{Slip}
+use Rattle.ranking.specs.Make.{examinedVerdict, lengthFor, fileFor}
+use Rattle.ranking.specs.Enquire.{slipFor}
 
 -- the view of two tables and a relation that are read is well formed
 pub formed : (left right relation : List ℕ) → InputsRead left right relation → AreBytes relation → WellFormed (viewOf left right relation)
@@ -65,32 +60,16 @@ module _ (ours theirs : List ℕ) where
   unfolding cellIn
   match-made j t h k = match-by-table ours theirs refl j t h (omega arith)
 
--- ---- what is made of two sides, as the code comes to it
+  -- the examination and the ranks, by the true lengths
+  abbrev examinedOf : Verdict (Unit {0})
+  examinedOf =
+      examinedIn ours theirs (distanceTable (viewIn ours theirs)) (distanceTable (viewIn theirs ours)) (chainTable (viewIn ours theirs))
+      (chainTable (viewIn theirs ours))
 
-module _ (ours theirs rows output : List ℕ) (z : Sizes) {distances distances′ chains chains′ : List ℕ}
-    (ed : distances ≡ distanceTable (viewIn ours theirs)) (ed′ : distances′ ≡ distanceTable (viewIn theirs ours))
-    (ec : chains ≡ chainTable (viewIn ours theirs)) (ec′ : chains′ ≡ chainTable (viewIn theirs ours))
-    {x : Checked} (ex : x ≡ asChecked (examinedIn ours theirs distances distances′ chains chains′)) where
-  verdict-is : x ≡ asChecked (examinedOf ours theirs)
-  verdict-is = rw (ed, ed′, ec, ec′) at ex
-
-  pub of-refused : {a : Answer} → x ≡ Refused a
-      → (a ≡ answerOf (λ x. sixNumbers 0 0 (certificateLength z)) (examinedOf ours theirs))
-      × (output ≡ filledAfter (examinedOf ours theirs) z rows (ranksMade ours theirs) output)
-  of-refused {a} q =
-      let e = sym (was-refused (examinedOf ours theirs) a (sym verdict-is ∙ q)) in
-      (ap (answerOf (λ x. sixNumbers 0 0 (certificateLength z))) e, ap (λ (v : Verdict (Unit {0})). filledAfter v z rows (ranksMade ours theirs) output) e)
-
-  pub of-passed : {L : ℕ} {al ar cl cr out : List ℕ} → x ≡ Passed → L ≡ certificateLength z → al ≡ stutterGrid ours chains → ar ≡ stutterGrid theirs chains′
-      → cl ≡ matchGrid theirs distances
-      → cr ≡ matchGrid ours distances′ → out ≡ fileWritten z rows (ranksIn al ar cl cr) output
-      → (sixNumbers 0 0 L ≡ answerOf (λ x. sixNumbers 0 0 (certificateLength z)) (examinedOf ours theirs))
-      × (out ≡ filledAfter (examinedOf ours theirs) z rows (ranksMade ours theirs) output)
-  of-passed q eL eal ear ecl ecr eo =
-      let e = sym (was-passed (examinedOf ours theirs) (sym verdict-is ∙ q)) in (
-        ap (sixNumbers 0 0) eL ∙ ap (answerOf (λ x. sixNumbers 0 0 (certificateLength z))) e,
-        rw (eal, ear, ecl, ecr, ed, ed′, ec, ec′) at eo ∙ ap (λ (v : Verdict (Unit {0})). filledAfter v z rows (ranksMade ours theirs) output) e,
-      )
+  abbrev ranksMade : Ranks
+  ranksMade =
+      ranksIn (stutterGrid ours (chainTable (viewIn ours theirs))) (stutterGrid theirs (chainTable (viewIn theirs ours)))
+      (matchGrid theirs (distanceTable (viewIn ours theirs))) (matchGrid ours (distanceTable (viewIn theirs ours)))
 
 -- ---- both sides
 
@@ -108,8 +87,8 @@ module _ (left right relation : List ℕ) {h k : Head} {ours theirs : List ℕ} 
   turned = view-flipped left right relation gl gr bytes a b
 
   -- the examination of the sides is the theory's
-  pub examined-is : examinedOf ours theirs ≡ madeVerdict left right relation
-  unfolding madeVerdict
+  pub examined-is : examinedOf ours theirs ≡ examinedVerdict left right relation
+  unfolding examinedVerdict
   examined-is =
       examination-is ours theirs (side-linked left gl a) (side-linked right gr b) (subst WellFormed (sym same) (formed left right relation read bytes))
       (turned ∙ ap flip (sym same))
@@ -130,35 +109,14 @@ module _ (left right relation : List ℕ) {h k : Head} {ours theirs : List ℕ} 
         match′ = λ x s i j. match-made theirs ours x s (rw m′ i) (rw n j) ∙ ap (λ (w : View). matchRank w x s) turned;
       }
 
-  -- so is the output
-  module _ {z : Sizes} (output : List ℕ) (e : z ≡ sizesOf left right) where
-    long : length relation ≡ rowLength * z .n1
-    long = rw e (relation-ok (sizesOf left right) relation (read .relation-good) .1 .long)
+-- ---- as the code comes to them
 
-    written : fileWritten z relation (ranksMade ours theirs) output ≡ putFront (fileFor left right relation) output
-    unfolding fileWritten fileFor
-    written =
-        rw (eq-eqb (length relation) (rowLength * z .n1) long)
-        (ap (λ (file : List ℕ). putFront file output)
-        (ap (λ (y : Sizes). certificateFile y relation (ranksMade ours theirs)) e
-        ∙ file-same (sizesOf left right) relation (ranksMade ours theirs) (made v) ranks-agree))
-
-    after : (x : Verdict (Unit {0})) → filledAfter x z relation (ranksMade ours theirs) output ≡ outputAfter x (fileFor left right relation) output
-    after (goOn x) = written
-    after (refusedWith answer) = refl
-
-    pub filled-is : filledAfter (examinedOf ours theirs) z relation (ranksMade ours theirs) output
-        ≡ outputAfter (madeVerdict left right relation) (fileFor left right relation) output
-    filled-is = ap (λ (x : Verdict (Unit {0})). filledAfter x z relation (ranksMade ours theirs) output) examined-is ∙ after (madeVerdict left right relation)
-
--- ---- what is made of what was read, as the code comes to it
-
-module _ (left right relation output : List ℕ) {h : Heads} {z : Sizes} {words columns ll ls rl rs ours theirs : List ℕ}
-    (good : readVerdict left right relation ≡ goOn h) (bytes : AreBytes relation)
-    (ez : z ≡ sizesFor (h .left) (h .right)) (room : certificateLength z ≤ length output) (ew : words ≡ rowWords relation (h .left .states))
-    (ec : columns ≡ columnWords words)
+module _ (left right relation : List ℕ) {h : Heads} {words columns ll ls rl rs ours theirs : List ℕ} (good : readVerdict left right relation ≡ goOn h)
+    (bytes : AreBytes relation) (ew : words ≡ rowWords relation (h .left .states)) (ec : columns ≡ columnWords words)
     (ell : ll ≡ labelsPart left) (els : ls ≡ stepsPart left) (erl : rl ≡ labelsPart right) (ers : rs ≡ stepsPart right)
-    (a : SideOf (h .left) ll ls words ours) (b : SideOf (h .right) rl rs columns theirs) where
+    (a : SideOf (h .left) ll ls words ours) (b : SideOf (h .right) rl rs columns theirs) {distances distances′ chains chains′ : List ℕ}
+    (ed : distances ≡ distanceTable (viewIn ours theirs)) (ed′ : distances′ ≡ distanceTable (viewIn theirs ours))
+    (eh : chains ≡ chainTable (viewIn ours theirs)) (eh′ : chains′ ≡ chainTable (viewIn theirs ours)) where
   gl : readTable left ≡ table.Good (h .left)
   gl = inputs-read left right relation good .0
 
@@ -167,9 +125,6 @@ module _ (left right relation output : List ℕ) {h : Heads} {z : Sizes} {words 
 
   all : InputsRead left right relation
   all = inputs-read left right relation good .2
-
-  sizes-is : z ≡ sizesOf left right
-  sizes-is = ez ∙ sizes-are left right gl gr
 
   words-are : words ≡ rowWords relation (statesOf left)
   words-are = ew ∙ ap (rowWords relation) (table-ok left gl .states-is)
@@ -180,13 +135,37 @@ module _ (left right relation output : List ℕ) {h : Heads} {z : Sizes} {words 
   their-side : SideOf (h .right) (labelsPart right) (stepsPart right) (columnWords (rowWords relation (statesOf left))) theirs
   their-side = rw (erl, ers, ec, words-are) at b
 
-  pub made-of-sides : {answer : Answer} {out : List ℕ} → answer ≡ answerOf (λ x. sixNumbers 0 0 (certificateLength z)) (examinedOf ours theirs)
-      → out ≡ filledAfter (examinedOf ours theirs) z relation (ranksMade ours theirs) output
-      → (answer ≡ makeAnswer left right relation output) × (out ≡ makeOutput left right relation output)
-  made-of-sides ea eo =
-      let e = examined-is left right relation all gl gr bytes our-side their-side in
-      let r : certificateLength (sizesOf left right) ≤ length output = rw sizes-is at room in
-      let m = made-by left right relation output (room-verdict left right relation output good r) in (
-        ea ∙ ap₂ (λ (n : ℕ) (v : Verdict (Unit {0})). answerOf (λ x. sixNumbers 0 0 n) v) (ap certificateLength sizes-is) e ∙ m .0,
-        eo ∙ filled-is left right relation all gl gr bytes our-side their-side output sizes-is ∙ m .1,
-      )
+  -- the examination of the sides is that of the bytes, and their ranks give the file for the relation
+  pub examined-here : (asChecked (examinedIn ours theirs distances distances′ chains chains′) ≡ asChecked (examinedVerdict left right relation))
+      × (certificateFile (sizesOf left right) relation
+      (ranksIn (stutterGrid ours chains) (stutterGrid theirs chains′) (matchGrid theirs distances) (matchGrid ours distances′))
+      ≡ fileFor left right relation)
+  unfolding fileFor
+  examined-here = (
+    rw (ed, ed′, eh, eh′) (ap asChecked (examined-is left right relation all gl gr bytes our-side their-side)),
+    rw (ed, ed′, eh, eh′)
+        (file-same (sizesOf left right) relation (ranksMade ours theirs) (made (viewOf left right relation))
+        (ranks-agree left right relation all gl gr bytes our-side their-side)),
+  )
+
+-- ---- the output and the slip, as the code comes to them
+
+module _ (left right relation : List ℕ) {h : Heads} {z : Sizes} (good : readVerdict left right relation ≡ goOn h) (ez : z ≡ sizesFor (h .left) (h .right)) where
+  sizes-is : z ≡ sizesOf left right
+  sizes-is = let i = inputs-read left right relation good in ez ∙ sizes-are left right (i .0) (i .1)
+
+  pub length-is : {L : ℕ} → L ≡ certificateLength z → L ≡ lengthFor left right
+  length-is e = e ∙ ap certificateLength sizes-is
+
+  pub filled-is : (output : List ℕ) (r : Ranks) → certificateFile (sizesOf left right) relation r ≡ fileFor left right relation
+      → fileWritten z relation r output ≡ putFront (fileFor left right relation) output
+  unfolding fileWritten
+  filled-is output r file =
+      let long = relation-ok (sizesOf left right) relation (inputs-read left right relation good .2 .relation-good) .1 .long in
+      rw (sizes-is, eq-eqb (length relation) (rowLength * sizesOf left right .n1) long) (ap (λ (f : List ℕ). putFront f output) file)
+
+  -- the true slip
+  pub slip-is : {x : Slip}
+      → x ≡ record { left = length left; right = length right; relation = length relation; certificate = certificateLength z }
+      → x ≡ slipFor left right relation
+  slip-is e = rw sizes-is at e

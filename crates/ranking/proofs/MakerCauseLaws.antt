@@ -1,79 +1,96 @@
--- The maker's verdict is decided by its causes: it refuses with the numbers of the first that applies, and goes on where none does. Assumes nothing.
+-- The verdicts of the maker, the enquiry and the commit are decided by their causes: each refuses with the numbers of the first that applies, and goes on where
+-- none does. Assumes nothing.
 use Prim.Native.Nat.{ℕ}
-use mathlib.Core.Path.{_≡_, sym, _∙_, subst}
-use mathlib.Core.List.{List, _++_}
-use lib.ListN.{length}
-use Rattle.answers.specs.Causes.{Cause, roomCauses, Numbered}
-use Rattle.answers.specs.Verdicts.{Verdict, _andThen_, roomVerdict}
-use Rattle.answers.proofs.CauseLaws.{numbered-append}
-use Rattle.answers.proofs.VerdictLaws.{Decided, Anything, room-decided, decided-then, then-cong, then-then}
-use Rattle.table_reader.specs.TableReading.{readTable}
-use Rattle.table_reader.specs.TableVerdicts.{tableVerdict}
-use Rattle.table_reader.specs.TableCauses.{tableCauses}
-use Rattle.table_reader.proofs.TableCauseLaws.{formed-good, after-table, table-numbers}
-use Rattle.certificates.specs.Layout.{sizesOf, certificateLength}
+use mathlib.Core.Path.{_≡_, ap}
+use mathlib.Core.Bool.{Bool}
+use mathlib.Core.List.{List, [], _∷_, _++_}
+use lib.Dec.{T, eqb}
+use Rattle.lists.proofs.BoolLaws.{and-l}
+use Rattle.answers.specs.Causes.{Cause, roomCauses, FirstCause, NoCause, Numbered, allows}
+use Rattle.answers.specs.Verdicts.{Verdict, passed}
+use Rattle.answers.specs.declared.Answer.{Answer}
+use Rattle.answers.proofs.CauseLaws.{numbered-append, numbered-first}
+use Rattle.answers.proofs.DecideLaws.{Decides, eqb-decides, and-decides, decides-as}
+use Rattle.answers.proofs.VerdictLaws.{Decided, Anything, room-decided, decided-none, decided-fits, decided-then}
+use Rattle.table_reader.proofs.TableCauseLaws.{tableNumbers}
 use Rattle.certificates.specs.CertificateModel.{AreBytes, viewOf}
-use Rattle.certificate_reader.specs.CertificateReading.{readRelation}
-use Rattle.certificate_reader.specs.CertificateVerdicts.{relationVerdict}
-use Rattle.certificate_reader.specs.CertificateCauses.{relationCauses}
-use Rattle.certificate_reader.proofs.CertificateCauseLaws.{relation-decided, relation-none-good, relation-numbers}
 use Rattle.starts.specs.StartsNamed.{startsNamed}
+use Rattle.inputs.specs.Inputs.{readVerdict}
+use Rattle.inputs.specs.InputCauses.{inputCauses}
+use Rattle.inputs.proofs.InputCauseLaws.{inputs-decided, none-read, input-numbers}
 use Rattle.examination.specs.ExaminationCauses.{examinationCauses}
 use Rattle.examination.proofs.ExamineLaws.{examined-decided, examination-numbers}
-use Rattle.inputs.specs.Inputs.{InputsRead, readVerdict}
-use Rattle.ranking.specs.Make.{madeVerdict, makeVerdict}
-use Rattle.ranking.specs.MakerCauses.{makerCauses, makerNumber}
+use Rattle.ranking.specs.declared.Slip.{Slip}
+use Rattle.ranking.specs.Make.{examinedVerdict, verdictWith, lengthFor, makeVerdict}
+use Rattle.ranking.specs.Enquire.{slipFor, sameSlip, slipVerdict, enquiryVerdict, commitVerdict}
+use Rattle.ranking.specs.MakerCauses.{causesWith, enquiryCauses, makerCauses, slipCauses, commitCauses}
+use Rattle.ranking.specs.MakerCauses.{examinationCode, examinationNumber, enquiryNumber, makerNumber, commitNumber}
 use Rattle.ranking.proofs.MakeSidesLaws.{formed}
 
-module _ (left right relation output : List ℕ) where
-  -- the room and the examination, after a reading
-  abbrev afterReading : Verdict (Unit {0})
-  afterReading = roomVerdict (certificateLength (sizesOf left right)) (length output) andThen λ x. madeVerdict left right relation
+-- the test of two slips
+pub same-decides : (x y : Slip) → Decides (sameSlip x y) (x ≡ y)
+unfolding sameSlip
+same-decides x y =
+    decides-as (and-decides (eqb-decides (x .left) (y .left)) (and-decides (eqb-decides (x .right) (y .right))
+    (and-decides (eqb-decides (x .relation) (y .relation)) (eqb-decides (x .certificate) (y .certificate)))))
+    (λ e. rw (e .0, e .1 .0, e .1 .1 .0, e .1 .1 .1))
+    (λ e. (ap (λ (z : Slip). z .left) e, (ap (λ (z : Slip). z .right) e, (ap (λ (z : Slip). z .relation) e, ap (λ (z : Slip). z .certificate) e))))
 
-  pub maker-decided : AreBytes relation → Decided Anything (makerCauses left right relation output) (makeVerdict left right relation output)
-  unfolding makeVerdict readVerdict madeVerdict
-  maker-decided bytes = subst (Decided Anything (makerCauses left right relation output)) (sym flat) (
-      after-table 0 left λ l. after-table 1 right λ k.
-      decided-then (relationVerdict 2 (readRelation (sizesOf left right) relation)) (relation-decided 2 (sizesOf left right) relation) λ z e n.
-      decided-then (roomVerdict (certificateLength (sizesOf left right)) (length output))
-      (room-decided (certificateLength (sizesOf left right)) output) λ x g m.
-      let read : InputsRead left right relation = record {
-        head = _;
-        head′ = _;
-        sizes = _;
-        left-good = formed-good left l;
-        right-good = formed-good right k;
-        relation-good = relation-none-good 2 (sizesOf left right) relation n;
-      } in
-      examined-decided (viewOf left right relation) (formed left right relation read bytes) (startsNamed left right))
-    where
-      -- one step after the other
-      flat : makeVerdict left right relation output
-          ≡ (tableVerdict 0 (readTable left) andThen λ h. tableVerdict 1 (readTable right)
-          andThen λ k. relationVerdict 2 (readRelation (sizesOf left right) relation) andThen λ z. afterReading)
-      flat = then-then (tableVerdict 0 (readTable left)) _ _ ∙ then-cong (tableVerdict 0 (readTable left)) λ h.
-          then-then (tableVerdict 1 (readTable right)) _ _ ∙ then-cong (tableVerdict 1 (readTable right)) λ k.
-          then-then (relationVerdict 2 (readRelation (sizesOf left right) relation)) _ _
+module _ (left right relation : List ℕ) where
+  abbrev pub examination : List Cause
+  examination = examinationCauses (viewOf left right relation) (startsNamed left right)
 
-  -- the causes after each file, and after the room
-  abbrev pub afterRoom : List Cause
-  afterRoom = examinationCauses (viewOf left right relation) (startsNamed left right)
+  module _ (bytes : AreBytes relation) where
+    pub examination-decided : NoCause (inputCauses left right relation) → Decided Anything examination (examinedVerdict left right relation)
+    unfolding examinedVerdict
+    examination-decided n =
+        examined-decided (viewOf left right relation) (formed left right relation (none-read left right relation n) bytes) (startsNamed left right)
 
-  abbrev pub afterRelation : List Cause
-  afterRelation = roomCauses (certificateLength (sizesOf left right)) output ++ afterRoom
+    -- one law over what is asked between the reading and the examination
+    pub decided-with : (causes : List Cause) (between : Verdict (Unit {0})) → Decided Anything causes between
+        → Decided Anything (causesWith causes left right relation) (verdictWith between left right relation)
+    unfolding verdictWith
+    decided-with causes between d =
+        decided-then (readVerdict left right relation) (inputs-decided left right relation) λ h g n.
+        decided-then between d λ x k m.
+        examination-decided n
 
-  abbrev pub afterRight : List Cause
-  afterRight = relationCauses 2 (sizesOf left right) relation ++ afterRelation
+    pub enquiry-decided : Decided Anything (enquiryCauses left right relation) (enquiryVerdict left right relation)
+    enquiry-decided = decided-with [] passed (decided-none tt)
 
-  abbrev pub afterLeft : List Cause
-  afterLeft = tableCauses 1 right ++ afterRight
+    pub maker-decided : (output : List ℕ) → Decided Anything (makerCauses left right relation output) (makeVerdict left right relation output)
+    maker-decided output = decided-with _ _ (room-decided (lengthFor left right) output)
 
-  -- 1 to 9 and 24 with the file 0 or 1; 15 to 17, 20, 22 and 23 with the file 2; 21 with the file 3
-  pub maker-numbers : Numbered makerNumber (makerCauses left right relation output)
-  maker-numbers =
-      numbered-append makerNumber (tableCauses 0 left) afterLeft (table-numbers makerNumber 0 tt left)
-      (numbered-append makerNumber (tableCauses 1 right) afterRight (table-numbers makerNumber 1 tt right)
-      (numbered-append makerNumber (relationCauses 2 (sizesOf left right) relation) afterRelation
-      (relation-numbers makerNumber 2 tt (sizesOf left right) relation)
-      (numbered-append makerNumber (roomCauses (certificateLength (sizesOf left right)) output) afterRoom (tt, tt)
-      (examination-numbers makerNumber tt (viewOf left right relation) (startsNamed left right)))))
+    pub commit-decided : (slip : Slip) (output : List ℕ)
+        → Decided Anything (commitCauses left right relation slip output) (commitVerdict left right relation slip output)
+    unfolding slipVerdict
+    commit-decided slip output =
+        decided-with _ _
+        (decided-then (slipVerdict slip (slipFor left right relation))
+        (decided-fits (sameSlip slip (slipFor left right relation)) (same-decides slip (slipFor left right relation)))
+        (λ x g n. room-decided (lengthFor left right) output))
+
+  -- ---- the numbers: those of the reading; 16, 17, 22 and 23 with the file 2; 21 with the file 3; and 29 with the file 2
+
+  pub examination-first : (a : Answer) → FirstCause examination a → T (examinationCode (a .code))
+  examination-first a first =
+      and-l (examinationCode (a .code)) (eqb (a .file) 2)
+      (numbered-first examinationNumber examination a
+      (examination-numbers examinationNumber tt (viewOf left right relation) (startsNamed left right)) first)
+
+  module _ (f : ℕ → ℕ → Bool) (of-left : T (allows f 0 tableNumbers)) (of-right : T (allows f 1 tableNumbers)) (of-relation : T (allows f 2 (20 ∷ 15 ∷ [])))
+      (of-examination : T (allows f 2 (16 ∷ 17 ∷ 22 ∷ 23 ∷ []))) where
+    pub numbers-with : (between : List Cause) → Numbered f between → Numbered f (causesWith between left right relation)
+    numbers-with between n =
+        numbered-append f (inputCauses left right relation) (between ++ examination) (input-numbers left right relation f of-left of-right of-relation)
+        (numbered-append f between examination n (examination-numbers f of-examination (viewOf left right relation) (startsNamed left right)))
+
+  pub enquiry-numbers : Numbered enquiryNumber (enquiryCauses left right relation)
+  enquiry-numbers = numbers-with enquiryNumber tt tt tt tt [] tt
+
+  pub maker-numbers : (output : List ℕ) → Numbered makerNumber (makerCauses left right relation output)
+  maker-numbers output = numbers-with makerNumber tt tt tt tt (roomCauses (lengthFor left right) output) (tt, tt)
+
+  pub commit-numbers : (slip : Slip) (output : List ℕ) → Numbered commitNumber (commitCauses left right relation slip output)
+  commit-numbers slip output =
+      numbers-with commitNumber tt tt tt tt (slipCauses left right relation slip ++ roomCauses (lengthFor left right) output) (tt, (tt, tt))

@@ -1,3 +1,4 @@
 pub mod Make
 pub mod OnSides
+pub mod Enquire
 pub mod MakerCauses

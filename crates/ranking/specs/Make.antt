@@ -15,15 +15,24 @@ use Rattle.inputs.specs.Inputs.{readVerdict}
 use Rattle.files.specs.File.{certificateFile}
 use Rattle.examination.specs.Examine.{examined}
 
--- The verdict where all is read and there is room, and the verdict on whatever is given.
-unfoldable pub madeVerdict : List ℕ → List ℕ → List ℕ → Verdict (Unit {0})
-madeVerdict left right relation = examined (viewOf left right relation) (startsNamed left right)
+-- The verdict of the examination, where all is read.
+unfoldable pub examinedVerdict : List ℕ → List ℕ → List ℕ → Verdict (Unit {0})
+examinedVerdict left right relation = examined (viewOf left right relation) (startsNamed left right)
 
-unfoldable pub makeVerdict : List ℕ → List ℕ → List ℕ → List ℕ → Verdict (Unit {0})
-makeVerdict left right relation output =
+-- The verdict on whatever is given, with what is asked between the reading and the examination.
+unfoldable pub verdictWith : Verdict (Unit {0}) → List ℕ → List ℕ → List ℕ → Verdict (Unit {0})
+verdictWith between left right relation =
     readVerdict left right relation andThen λ heads.
-    roomVerdict (certificateLength (sizesOf left right)) (length output) andThen λ x.
-    madeVerdict left right relation
+    between andThen λ x.
+    examinedVerdict left right relation
+
+-- The length L of a certificate for the two tables.
+abbrev pub lengthFor : List ℕ → List ℕ → ℕ
+lengthFor left right = certificateLength (sizesOf left right)
+
+-- The maker asks for the room.
+abbrev pub makeVerdict : List ℕ → List ℕ → List ℕ → List ℕ → Verdict (Unit {0})
+makeVerdict left right relation output = verdictWith (roomVerdict (lengthFor left right) (length output)) left right relation
 
 -- The file for the relation: its rows, and the maker's ranks.
 unfoldable pub fileFor : List ℕ → List ℕ → List ℕ → List ℕ
@@ -31,7 +40,7 @@ fileFor left right relation = certificateFile (sizesOf left right) relation (mad
 
 -- The answer after a verdict: the refusal's, or 0, 0, L.
 abbrev pub answerAfter : List ℕ → List ℕ → Verdict (Unit {0}) → Answer
-answerAfter left right = answerOf (λ x. sixNumbers 0 0 (certificateLength (sizesOf left right)))
+answerAfter left right = answerOf (λ x. sixNumbers 0 0 (lengthFor left right))
 
 unfoldable pub makeAnswer : List ℕ → List ℕ → List ℕ → List ℕ → Answer
 makeAnswer left right relation output = answerAfter left right (makeVerdict left right relation output)

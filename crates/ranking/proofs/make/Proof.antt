@@ -1,9 +1,9 @@
 -- `ranking::make` meets its contract: what the reading refuses, or what is made of what was read. Assumes nothing.
 use mathlib.Core.Path.{sym, _∙_}
 use denote.Ref.{now}
-use Rattle.inputs.proofs.InputLaws.{was-read, was-refused}
-use Rattle.ranking.proofs.MakeAnswers.{not-read}
 use borrow.Author.Needs.{needs}
+use Rattle.inputs.proofs.InputLaws.{was-read, was-refused}
+use Rattle.ranking.proofs.MakeAnswers.{made-by, not-read}
 use Rattle.ranking.proofs.make.Statement.{statement}
 use Rattle.ranking.proofs.make.Tie as tie
 
@@ -17,15 +17,13 @@ enum-known-inputs-2 : tie.Need-enum-known-inputs-2
 enum-known-inputs-2 c = search needs
 
 make-read-requires : tie.Need-make-read-requires
-make-read-requires c κs =
-    let read = c .before .before .before .before .read in
-    was-read _ _ (sym (read .ensures) ∙ c .before .before .inputs2 .given .1)
+make-read-requires c κs = was-read _ _ (sym (c .before .before .before .before .read .ensures) ∙ c .before .before .inputs2 .given .1)
 
 returns : tie.Need-returns
 returns c =
-    let read = c .before .before .before .read in
     let a = c .before .before .before .before .before .before .before .before .args in
-    not-read (now (a .left)) (now (a .right)) (now (a .relation)) (now (a .output)) (was-refused _ _ (sym (read .ensures) ∙ c .before .inputs .given .1))
+    let refused = was-refused _ _ (sym (c .before .before .before .read .ensures) ∙ c .before .inputs .given .1) in
+    made-by (now (a .left)) (now (a .right)) (now (a .relation)) (now (a .output)) (not-read (now (a .left)) (now (a .right)) (now (a .relation)) _ refused)
 
 same-length : tie.Need-same-length
 same-length c = search needs
