@@ -1,8 +1,8 @@
--- Ask 8 of document 02, `enquiry-exact`, `commit-exact` and `committed`: the enquiry answers as the maker does where there is room, and with its slip the commit is
--- the maker or is refused. Assumes nothing.
+-- Ask 8 of document 02, `enquiry-exact`, `commit-exact` and `committed`: the enquiry answers as the maker does where there is room, and with its slip the
+-- commit is the maker or is refused. Assumes nothing.
 use Prim.Native.Nat.{ℕ, _≤_, _<_}
 use mathlib.Core.Path.{_≡_, refl, sym, ap, _∙_, subst}
-use mathlib.Core.Logic.{_⊎_, inl, inr, ⊎-elim}
+use mathlib.Core.Logic.{_⊎_, inl, inr, ⊎-elim, _↔_}
 use mathlib.Core.Bool.{_||_}
 use mathlib.Core.List.{List}
 use native.Mathlib.Omega.{arith}
@@ -10,10 +10,10 @@ use lib.Dec.{T, eqb, eqb→eq}
 use lib.ListN.{length}
 use Rattle.lists.proofs.BoolLaws.{or-e}
 use Rattle.answers.specs.Numbers.{sixNumbers}
-use Rattle.answers.specs.Causes.{NoCause, Answers}
+use Rattle.answers.specs.Causes.{FirstCause, NoCause, Answers}
 use Rattle.answers.specs.Verdicts.{Verdict, goOn, refusedWith, passed}
 use Rattle.answers.specs.declared.Answer.{Answer}
-use Rattle.answers.proofs.CauseLaws.{append-none, zero-none}
+use Rattle.answers.proofs.CauseLaws.{append-none, refused-iff, zero-none}
 use Rattle.answers.proofs.DecideLaws.{eqb-decides, ltb-decides, decides-true, decides-false, decides-either, decides-stable}
 use Rattle.answers.proofs.VerdictLaws.{on-none, refused-first, decided-answer, refused-output}
 use Rattle.certificates.specs.CertificateModel.{AreBytes}
@@ -25,9 +25,9 @@ use Rattle.ranking.specs.declared.Slip.{Slip}
 use Rattle.ranking.specs.declared.Enquiry.{Enquiry}
 use Rattle.ranking.specs.Make.{examinedVerdict, lengthFor, fileFor, makeAnswer, makeOutput, answerAfter}
 use Rattle.ranking.specs.Enquire.{slipFor, blankSlip, slipAfter, enquiryVerdict, enquiryFor, commitVerdict, commitAnswer, commitOutput}
-use Rattle.ranking.specs.MakerCauses.{commitCauses, examinationCode, commitNumber}
+use Rattle.ranking.specs.MakerCauses.{enquiryCauses, commitCauses, examinationCode, enquiryNumber, commitNumber}
 use Rattle.ranking.proofs.MakeAnswers.{enquired-by, made-by, committed-by, commit-make, not-read, when-read, room-verdict, too-short, other-slip}
-use Rattle.ranking.proofs.MakerCauseLaws.{same-decides, examination-decided, examination-first, enquiry-decided, commit-decided, commit-numbers}
+use Rattle.ranking.proofs.MakerCauseLaws.{same-decides, examination-decided, examination-first, enquiry-decided, commit-decided, enquiry-numbers, commit-numbers}
 use Rattle.demands.specs.Demand1.{Made}
 use Rattle.demands.specs.Ask8.{EnquiryExact, CommitExact, OfReading, OfExamination, Committed}
 
@@ -142,6 +142,12 @@ module _ (left right relation : List ℕ) (bytes : AreBytes relation) where
         has-room = has-room;
       }
 
+  -- each refusal is answered exactly where its cause is the first that applies
+  pub enquiry-refuses : (a : Answer) → FirstCause (enquiryCauses left right relation) a ↔ ((enquired ≡ a) × (¬ (a .code ≡ 0)))
+  enquiry-refuses =
+      refused-iff (Made left right) (enquiryCauses left right relation) enquired (enquiry-exact .answers) enquiryNumber
+      (enquiry-numbers left right relation) (λ file h. h) (λ a e. ap (λ (x : Answer). x .code) e)
+
   -- ---- the commit
 
   module _ (slip : Slip) (output : List ℕ) where
@@ -161,6 +167,11 @@ module _ (left right relation : List ℕ) (bytes : AreBytes relation) where
         (commit-numbers left right relation slip output) (λ file h. h) (λ a e. ap (λ (x : Answer). x .code) e) z .0 in
         let inputs = append-none (inputCauses left right relation) _ none in
         (inputs .0, decides-stable (same-decides slip (slipFor left right relation)) (inputs .1 .0))
+
+    pub commit-refuses : (a : Answer) → FirstCause (commitCauses left right relation slip output) a ↔ ((answer ≡ a) × (¬ (a .code ≡ 0)))
+    commit-refuses =
+        refused-iff (Made left right) (commitCauses left right relation slip output) answer commit-answers commitNumber
+        (commit-numbers left right relation slip output) (λ file h. h) (λ a e. ap (λ (x : Answer). x .code) e)
 
     pub commit-exact : CommitExact left right relation slip output answer (commitOutput left right relation slip output)
     unfolding commitAnswer commitOutput

@@ -55,6 +55,7 @@ use Rattle.files.specs.File.{certificateHeader, certificateFile}
 use Rattle.examination.specs.Examine.{examined, makerVerdict, verdictBy, mayKeep, endlessAt, firstChain, endless}
 use Rattle.inputs.specs.Inputs.{readVerdict}
 use Rattle.ranking.specs.Make.{fileFor, examinedVerdict, verdictWith, makeAnswer, makeOutput}
+use Rattle.ranking.specs.Enquire.{sameSlip, slipVerdict, enquiryFor, commitAnswer, commitOutput}
 use Rattle.checker.specs.Judge.{pairsIn, judged, judgedBytes, judgeVerdict, judgeAnswer}
 use Rattle.demands.specs.Demand2.{WellFormedInputs}
 use Rattle.lister.specs.Listing.{checkLines, listing, listingOf}
@@ -69,7 +70,7 @@ use Rattle.path_matcher.specs.Following.{
   followStates,
   followBlocks,
 }
-use Rattle.demands.specs.Examples.{line, six, run, P, Q, startingAt, rowsPQ, K, certificate, low, zeros, still, looping, stillCertificate}
+use Rattle.demands.specs.Examples.{line, six, slip, run, P, Q, startingAt, rowsPQ, K, certificate, low, zeros, still, looping, stillCertificate}
 use Rattle.demands.proofs.MakerAnswers.{made-given}
 use Rattle.demands.proofs.MakerExact.{maker-exact}
 
@@ -165,6 +166,30 @@ unfolding
     matchesWithin matched distance mayChain chainAlong stutterRank matchRank mostBelow
     readVerdict examinedVerdict verdictWith makeAnswer makeOutput fileFor certificateHeader certificateFile bigBytes tabulate grid putAt putFront
 made-K = (refl, refl, refl, refl, refl)
+
+-- the enquiry of P, Q and these rows gives 51 bytes and the slip 17, 21, 16, 51, with which the commit makes K or asks for room; with another number on it the
+-- commit answers 29, before 21 and after 15; and the enquiry of a table that loops where the other is still gives zeros, which get 29
+pub enquired-PQ : (enquiryFor P Q rowsPQ ≡ record { answer = six 0 0 51 0 0 0; slip = slip 17 21 16 51 })
+    × (commitAnswer P Q rowsPQ (slip 17 21 16 51) (zeros 51) ≡ six 0 0 51 0 0 0)
+    × (commitOutput P Q rowsPQ (slip 17 21 16 51) (zeros 51) ≡ K)
+    × (commitAnswer P Q rowsPQ (slip 17 21 16 51) (zeros 50) ≡ six 21 3 51 0 0 0)
+    × (commitAnswer P Q rowsPQ (slip 17 21 16 50) (zeros 50) ≡ six 29 2 0 0 0 0)
+    × (commitOutput P Q rowsPQ (slip 21 17 16 51) (zeros 51) ≡ zeros 51)
+    × (commitAnswer P Q (low 11 ++ low 4) (slip 0 0 0 0) [] ≡ six 15 2 0 0 0 0)
+    × (enquiryFor still looping (low 1) ≡ record { answer = six 23 2 1 0 0 0; slip = slip 0 0 0 0 })
+    × (commitAnswer still looping (low 1) (slip 0 0 0 0) (zeros 24) ≡ six 29 2 0 0 0 0)
+unfolding
+    anyBelow allBelow firstBelow sumBelow countBelow bigEndian hasBit addBit hasFrom countBits firstBit is2a is2b is2c ahead
+    layoutOf formatOf magicFits versionOf formatIn versionFits statesOf statesFit startWord startOf stepsOf initialOf tableLength stepsAt
+    labelsPart stepsPart labelOf fromOf toOf endsOutside sameStep doubled readLength readSizes readHeader readSteps readTable
+    systemOf sizesOf certificateLength alAt arAt clAt crAt rowsPart rowOf certificateSizesFit wideRow
+    readRows readCertificate certificates.readHeader relatedIn viewOf ranksOf smallestEntered outcomeAfter2a isApart obligationAt
+    joinBelow stepsFrom pairChecks checksBy checks along startsNamed startsVerdict checkVerdict pairsIn judged judgedBytes judgeVerdict judgeAnswer
+    readRelation roomVerdict examined firstOf makerVerdict verdictBy mayKeep endlessAt firstChain endless
+    matchesWithin matched distance mayChain chainAlong stutterRank matchRank mostBelow
+    readVerdict examinedVerdict verdictWith fileFor certificateHeader certificateFile bigBytes tabulate grid putAt putFront
+    sameSlip slipVerdict enquiryFor commitAnswer commitOutput
+enquired-PQ = (refl, refl, refl, refl, refl, refl, refl, refl, refl)
 
 -- P and Q with the rows 3 and 4 are well formed, and the relation has the path property: no hypothesis of the demands is empty
 

@@ -1,5 +1,5 @@
--- Ask 8 of document 02 on bytes, of whatever bytes, slip and output: what the enquiry answers and puts on its slip, what the commit answers and writes, and what
--- the second does with the slip of the first.
+-- Ask 8 of document 02 on bytes, of whatever bytes, slip and output: what the enquiry answers and puts on its slip, what the commit answers and writes, and
+-- what the second does with the slip of the first.
 use Prim.Native.Nat.{ℕ, _≤_}
 use mathlib.Core.Path.{_≡_}
 use mathlib.Core.Logic.{_⊎_, _↔_}

@@ -3,11 +3,16 @@ use Prim.Native.Nat.{ℕ}
 use mathlib.Core.List.{List, [], _∷_, _++_}
 use lib.ListN.{replicate}
 use Rattle.answers.specs.declared.Answer.{Answer}
+use Rattle.ranking.specs.declared.Slip.{Slip}
 use Rattle.lister.specs.Listing.{Line}
 
 -- Six numbers.
 abbrev pub six : ℕ → ℕ → ℕ → ℕ → ℕ → ℕ → Answer
 six code file a b c d = record { code = code; file = file; a = a; b = b; c = c; d = d }
+
+-- The slip of an enquiry.
+abbrev pub slip : ℕ → ℕ → ℕ → ℕ → Slip
+slip left right relation certificate = record { left = left; right = right; relation = relation; certificate = certificate }
 
 -- A line of the listing.
 abbrev pub line : ℕ → ℕ → ℕ → ℕ → ℕ → ℕ → Line
