@@ -27,7 +27,8 @@ use Rattle.ranking.specs.Make.{examinedVerdict, lengthFor, fileFor, makeAnswer,
 use Rattle.ranking.specs.Enquire.{slipFor, blankSlip, slipAfter, enquiryVerdict, enquiryFor, commitVerdict, commitAnswer, commitOutput}
 use Rattle.ranking.specs.MakerCauses.{enquiryCauses, commitCauses, examinationCode, enquiryNumber, commitNumber}
 use Rattle.ranking.proofs.MakeAnswers.{enquired-by, made-by, committed-by, commit-make, not-read, when-read, room-verdict, too-short, other-slip}
-use Rattle.ranking.proofs.MakerCauseLaws.{same-decides, examination-decided, examination-first, enquiry-decided, commit-decided, enquiry-numbers, commit-numbers}
+use Rattle.ranking.proofs.MakerCauseLaws.{same-decides, examination-decided, examination-first, enquiry-decided, enquiry-numbers}
+use Rattle.ranking.proofs.MakerCauseLaws.{commit-decided, commit-numbers}
 use Rattle.demands.specs.Demand1.{Made}
 use Rattle.demands.specs.Ask8.{EnquiryExact, CommitExact, OfReading, OfExamination, Committed}
 

@@ -1,0 +1,22 @@
+-- `stutter::have_room` meets its contract: six places for the answer, and four for the slip. Assumes nothing.
+use lib.ListN.{length}
+use denote.Ref.{now}
+use borrow.Author.Tests.{le-leb, lt-leb}
+use Rattle.stutter.specs.Interface.{hasRoom, haveRoom}
+use Rattle.stutter.proofs.have_room.Statement.{statement}
+use Rattle.stutter.proofs.have_room.Tie as tie
+
+returns : tie.Need-returns
+unfolding hasRoom haveRoom
+returns c = rw (lt-leb 6 (length (now (c .before .args .answer))) (c .if1 .taken))
+
+returns-2 : tie.Need-returns-2
+unfolding hasRoom haveRoom
+returns-2 c = rw (le-leb 6 (length (now (c .before .args .answer))) (c .if1 .left))
+
+pub have-room-spec : {M : Type 1} → statement M
+have-room-spec =
+    tie.close
+    (tie.spec
+    returns
+    returns-2)
