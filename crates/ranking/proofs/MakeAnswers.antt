@@ -95,10 +95,9 @@ module _ (left right relation : List ℕ) where
       pub enquiry-refused : {a : Answer} → x ≡ Refused a → _≡_ {A = Enquiry} (record { answer = a; slip = blankSlip }) (enquiryFor left right relation)
       enquiry-refused q = enquired-by (when-read passed ∙ refuses q)
 
-      pub enquiry-passed : {s : Slip} → x ≡ Passed → s ≡ slipFor left right relation
-          → _≡_ {A = Enquiry} (record { answer = sixNumbers 0 0 (s .certificate); slip = s }) (enquiryFor left right relation)
-      enquiry-passed q e =
-          ap (λ (s : Slip). record { answer = sixNumbers 0 0 (s .certificate); slip = s }) e ∙ enquired-by (when-read passed ∙ passes q)
+      pub enquiry-passed : {a : Answer} {s : Slip} → x ≡ Passed → a ≡ sixNumbers 0 0 (s .certificate) → s ≡ slipFor left right relation
+          → _≡_ {A = Enquiry} (record { answer = a; slip = s }) (enquiryFor left right relation)
+      enquiry-passed q f e = rw (f, e) (enquired-by (when-read passed ∙ passes q))
 
       module _ (output : List ℕ) {L : ℕ} (e : L ≡ lengthFor left right) (room : L ≤ length output) where
         has-room : lengthFor left right ≤ length output
@@ -108,8 +107,8 @@ module _ (left right relation : List ℕ) where
             → (a ≡ makeAnswer left right relation output) × (output ≡ makeOutput left right relation output)
         make-refused q = made-by output (room-verdict output has-room ∙ refuses q)
 
-        pub make-passed : {out : List ℕ} → x ≡ Passed → out ≡ putFront (fileFor left right relation) output
-            → (sixNumbers 0 0 L ≡ makeAnswer left right relation output) × (out ≡ makeOutput left right relation output)
-        make-passed q f =
+        pub make-passed : {a : Answer} {out : List ℕ} → x ≡ Passed → a ≡ sixNumbers 0 0 L → out ≡ putFront (fileFor left right relation) output
+            → (a ≡ makeAnswer left right relation output) × (out ≡ makeOutput left right relation output)
+        make-passed q g f =
             let made = made-by output (room-verdict output has-room ∙ passes q) in
-            (ap (sixNumbers 0 0) e ∙ made .0, f ∙ made .1)
+            (g ∙ ap (sixNumbers 0 0) e ∙ made .0, f ∙ made .1)

@@ -20,6 +20,7 @@ use tables::labels;
 use tables::steps;
 ghost use mathlib.Core.Path.{_≡_};
 ghost use lib.ListN.{length};
+ghost use Rattle.answers.specs.Numbers.{sixNumbers};
 ghost use Rattle.answers.specs.Verdicts.{goOn, asChecked};
 ghost use Rattle.certificates.specs.Layout.{sizesFor, sizesOf, certificateLength};
 ghost use Rattle.inputs.specs.Inputs.{readVerdict};
@@ -102,6 +103,20 @@ fn fill_examined(examined: Examined, relation: &[u8], sizes: Sizes, output: &mut
     fill(relation, sizes, &al, &ar, &cl, &cr, output);
 }
 
+// The answer where a certificate of this length is or can be made.
+fn success(length: usize) -> Answer
+    ensures { λ r. ⌜ r ≡ sixNumbers 0 0 length ⌝ }
+{
+    Answer {
+        code: 0,
+        file: 0,
+        a: length,
+        b: 0,
+        c: 0,
+        d: 0,
+    }
+}
+
 // The true slip of two tables with these headers and a relation.
 fn slip_for(left: &[u8], right: &[u8], relation: &[u8], heads: Heads) -> Slip
     ensures { λ r. ⌜ r ≡ record {
@@ -161,14 +176,7 @@ fn make_read(left: &[u8], right: &[u8], relation: &[u8], heads: Heads, output: &
         Checked::Refused(answer) => answer,
         Checked::Passed => {
             fill_examined(examined, relation, sizes, output);
-            Answer {
-                code: 0,
-                file: 0,
-                a: length,
-                b: 0,
-                c: 0,
-                d: 0,
-            }
+            success(length)
         }
     }
 }
@@ -198,14 +206,7 @@ fn enquire_read(left: &[u8], right: &[u8], relation: &[u8], heads: Heads) -> Enq
     match checked {
         Checked::Refused(answer) => refused(answer),
         Checked::Passed => Enquiry {
-            answer: Answer {
-                code: 0,
-                file: 0,
-                a: slip.certificate,
-                b: 0,
-                c: 0,
-                d: 0,
-            },
+            answer: success(slip.certificate),
             slip,
         },
     }

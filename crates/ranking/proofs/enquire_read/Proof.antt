@@ -22,6 +22,9 @@ refused-requires c κs = search needs
 enum-told : tie.Need-enum-told
 enum-told c = search needs
 
+success-requires : tie.Need-success-requires
+success-requires c κs = search needs
+
 returns : tie.Need-returns
 returns c =
     let start = c .before .before .before .before .before .before .before .before .before in
@@ -32,11 +35,11 @@ returns c =
 
 returns-2 : tie.Need-returns-2
 returns-2 c =
-    let start = c .before .before .before .before .before .before .before in
+    let start = c .before .before .before .before .before .before .before .before in
     let a = start .args in
-    let slip = slip-is (now (a .left)) (now (a .right)) (now (a .relation)) (start .pre) refl (c .before .before .slip-for .ensures) in
-    enquiry-passed (now (a .left)) (now (a .right)) (now (a .relation)) (start .pre) (c .before .before .before .examine-read .ensures .0)
-    (c .enum-told .given .1) slip
+    let slip = slip-is (now (a .left)) (now (a .right)) (now (a .relation)) (start .pre) refl (c .before .before .before .slip-for .ensures) in
+    enquiry-passed (now (a .left)) (now (a .right)) (now (a .relation)) (start .pre) (c .before .before .before .before .examine-read .ensures .0)
+    (c .before .enum-told .given .1) (c .success .ensures) slip
 
 pub enquire-read-spec : {M : Type 1} → statement M
 enquire-read-spec =
@@ -47,5 +50,6 @@ enquire-read-spec =
     enum-known-checked
     refused-requires
     enum-told
+    success-requires
     returns
     returns-2)

@@ -32,6 +32,9 @@ enum-told c = search needs
 fill-examined-requires : tie.Need-fill-examined-requires
 fill-examined-requires c κs = search needs
 
+success-requires : tie.Need-success-requires
+success-requires c κs = search needs
+
 returns-2 : tie.Need-returns-2
 returns-2 c =
     let test = c .before .before .before .before in
@@ -47,16 +50,16 @@ same-length c = search needs
 
 returns-3 : tie.Need-returns-3
 returns-3 c =
-    let test = c .before .before .before .before .before .before .before in
+    let test = c .before .before .before .before .before .before .before .before in
     let start = test .before .before .before .before .before .before .before in
     let a = start .args in
-    let examined = c .before .before .before .before .before .before .examine-read .ensures in
+    let examined = c .before .before .before .before .before .before .before .examine-read .ensures in
     let long = length-is (now (a .left)) (now (a .right)) (now (a .relation)) (start .pre) (test .before .before .of .ensures)
     (test .before .length .ensures) in
     let filled = filled-is (now (a .left)) (now (a .right)) (now (a .relation)) (start .pre) (test .before .before .of .ensures)
     (now (a .output)) _ (examined .1) in
     make-passed (now (a .left)) (now (a .right)) (now (a .relation)) (start .pre) (examined .0) (now (a .output)) long (test .if1 .left)
-    (c .before .before .before .before .enum-told .given .1) (c .before .before .fill-examined .ensures ∙ filled)
+    (c .before .before .before .before .before .enum-told .given .1) (c .success .ensures) (c .before .before .before .fill-examined .ensures ∙ filled)
 
 pub make-read-spec : {M : Type 1} → statement M
 make-read-spec =
@@ -69,6 +72,7 @@ make-read-spec =
     enum-known-checked
     enum-told
     fill-examined-requires
+    success-requires
     returns-2
     same-length
     returns-3)

@@ -35,11 +35,12 @@ returns c =
     let room = sym (test .before .have-room .ensures) ∙ test .if1 .taken in
     let enquiry = enquiryFor (now (a .left)) (now (a .right)) (now (a .relation)) in
     let enquired = c .before .before .before .before .before .before .before .before .enquire .ensures in
+    let slip = c .before .before .before .before .before .before .put-slip .ensures in
     let put = c .before .before .put-numbers .ensures in (
       put .0 ∙ answer-room _ _ room ∙ sym room,
       (
         simp room (put .1 ∙ ap (λ (x : Enquiry). answered (x .answer) (now (a .answer))) {y = enquiry} enquired),
-        simp room (c .before .before .before .before .before .before .put-slip .ensures ∙ ap (λ (x : Enquiry). slipped (x .slip) (now (a .slip))) {y = enquiry} enquired),
+        simp room (slip ∙ ap (λ (x : Enquiry). slipped (x .slip) (now (a .slip))) {y = enquiry} enquired),
       ),
     )
 
