@@ -58,6 +58,10 @@ module _ (left right relation : List ℕ) where
   unfolding verdictWith
   not-read between e = rw e
 
+  pub enquiry-unread : {a : Answer} {s : Slip} → readVerdict left right relation ≡ refusedWith a → s ≡ blankSlip
+      → _≡_ {A = Enquiry} (record { answer = a; slip = s }) (enquiryFor left right relation)
+  enquiry-unread q e = rw e (enquired-by (not-read passed q))
+
   module _ {h : Heads} (read : readVerdict left right relation ≡ goOn h) where
     -- where all is read, what is asked next, and then the examination
     pub when-read : (between : Verdict (Unit {0})) → verdictWith between left right relation ≡ (between andThen λ x. examinedVerdict left right relation)
@@ -92,8 +96,9 @@ module _ (left right relation : List ℕ) where
       passes : x ≡ Passed → examinedVerdict left right relation ≡ passed
       passes q = was-passed _ (sym ex ∙ q)
 
-      pub enquiry-refused : {a : Answer} → x ≡ Refused a → _≡_ {A = Enquiry} (record { answer = a; slip = blankSlip }) (enquiryFor left right relation)
-      enquiry-refused q = enquired-by (when-read passed ∙ refuses q)
+      pub enquiry-refused : {a : Answer} {s : Slip} → x ≡ Refused a → s ≡ blankSlip
+          → _≡_ {A = Enquiry} (record { answer = a; slip = s }) (enquiryFor left right relation)
+      enquiry-refused q e = rw e (enquired-by (when-read passed ∙ refuses q))
 
       pub enquiry-passed : {a : Answer} {s : Slip} → x ≡ Passed → a ≡ sixNumbers 0 0 (s .certificate) → s ≡ slipFor left right relation
           → _≡_ {A = Enquiry} (record { answer = a; slip = s }) (enquiryFor left right relation)

@@ -134,6 +134,18 @@ fn slip_for(left: &[u8], right: &[u8], relation: &[u8], heads: Heads) -> Slip
     }
 }
 
+// Four zeros, the slip of a refused enquiry.
+fn blank_slip() -> Slip
+    ensures { λ r. ⌜ r ≡ blankSlip ⌝ }
+{
+    Slip {
+        left: 0,
+        right: 0,
+        relation: 0,
+        certificate: 0,
+    }
+}
+
 // Whether two slips have the same four numbers.
 fn same_slip(x: Slip, y: Slip) -> bool
     ensures { λ r. ⌜ r ≡ sameSlip x y ⌝ }
@@ -202,27 +214,16 @@ fn enquire_read(left: &[u8], right: &[u8], relation: &[u8], heads: Heads) -> Enq
 {
     let examined = examine_read(left, right, relation, heads);
     let slip = slip_for(left, right, relation, heads);
+    let blank = blank_slip();
     let checked = examined.checked;
     match checked {
-        Checked::Refused(answer) => refused(answer),
+        Checked::Refused(answer) => Enquiry {
+            answer,
+            slip: blank,
+        },
         Checked::Passed => Enquiry {
             answer: success(slip.certificate),
             slip,
-        },
-    }
-}
-
-// What a refused enquiry gives: the slip is four zeros.
-fn refused(answer: Answer) -> Enquiry
-    ensures { λ r. ⌜ r ≡ record { answer = answer; slip = blankSlip } ⌝ }
-{
-    Enquiry {
-        answer,
-        slip: Slip {
-            left: 0,
-            right: 0,
-            relation: 0,
-            certificate: 0,
         },
     }
 }
@@ -233,7 +234,10 @@ pub fn enquire(left: &[u8], right: &[u8], relation: &[u8]) -> Enquiry
 {
     let inputs = read(left, right, relation);
     match inputs {
-        Inputs::Refused(answer) => refused(answer),
+        Inputs::Refused(answer) => Enquiry {
+            answer,
+            slip: blank_slip(),
+        },
         Inputs::Read(heads) => enquire_read(left, right, relation, heads),
     }
 }

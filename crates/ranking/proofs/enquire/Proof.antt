@@ -2,9 +2,8 @@
 use mathlib.Core.Path.{sym, _∙_}
 use denote.Ref.{now}
 use borrow.Author.Needs.{needs}
-use Rattle.answers.specs.Verdicts.{passed}
 use Rattle.inputs.proofs.InputLaws.{was-read, was-refused}
-use Rattle.ranking.proofs.MakeAnswers.{enquired-by, not-read}
+use Rattle.ranking.proofs.MakeAnswers.{enquiry-unread}
 use Rattle.ranking.proofs.enquire.Statement.{statement}
 use Rattle.ranking.proofs.enquire.Tie as tie
 
@@ -14,8 +13,8 @@ read-requires c κs = search needs
 enum-known-inputs : tie.Need-enum-known-inputs
 enum-known-inputs c = search needs
 
-refused-requires : tie.Need-refused-requires
-refused-requires c κs = search needs
+blank-slip-requires : tie.Need-blank-slip-requires
+blank-slip-requires c κs = search needs
 
 enum-known-inputs-2 : tie.Need-enum-known-inputs-2
 enum-known-inputs-2 c = search needs
@@ -27,8 +26,7 @@ returns : tie.Need-returns
 returns c =
     let a = c .before .before .before .before .before .before .before .before .args in
     let refused = was-refused _ _ (sym (c .before .before .before .before .read .ensures) ∙ c .before .before .inputs .given .1) in
-    c .refused .ensures
-    ∙ enquired-by (now (a .left)) (now (a .right)) (now (a .relation)) (not-read (now (a .left)) (now (a .right)) (now (a .relation)) passed refused)
+    enquiry-unread (now (a .left)) (now (a .right)) (now (a .relation)) refused (c .blank-slip .ensures)
 
 returns-2 : tie.Need-returns-2
 returns-2 c = search needs
@@ -39,7 +37,7 @@ enquire-spec =
     (tie.spec
     read-requires
     enum-known-inputs
-    refused-requires
+    blank-slip-requires
     enum-known-inputs-2
     enquire-read-requires
     returns
