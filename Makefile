@@ -2,8 +2,7 @@
 # make examples  prove and build the library, and compile the C examples with it: target/judge, target/make, target/follow and target/write
 # make test      the whole gate: layout; rt ci, which proves every crate from nothing, tries the must-fail edits and runs the programs; the Rust tests
 #                on what it proved. Where all of this passes, the last line is that of rt ci, 'N passed, 0 failed', said again
-# make bench     speed of the proved judge, maker, follower and writer and of the listing program beside Rust versions, as ratios in one run; no part of
-#                the gate
+# make bench     speed of the proved functions and of the listing program beside Rust versions, as ratios in one run; no part of the gate
 # make fmt       lay out every file under crates/
 
 # rt waits for the slowest of the crates or edits that it has started together; four at a time leave two cores the least idle.
