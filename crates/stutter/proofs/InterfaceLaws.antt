@@ -11,8 +11,8 @@ use Rattle.stutter.specs.Interface.{hasRoom, haveRoom}
 module _ (slip places : List ℕ) (room : haveRoom slip places ≡ true) where
   pub answer-room : hasRoom places ≡ true
   unfolding haveRoom
-  answer-room = T-true (hasRoom places) (and-l (hasRoom places) (leb 4 (length slip)) (true-T _ room))
+  answer-room = T-true (hasRoom places) (and-r (leb 4 (length slip)) (hasRoom places) (true-T _ room))
 
   pub slip-room : 4 ≤ length slip
   unfolding haveRoom
-  slip-room = leb→le 4 (length slip) (and-r (hasRoom places) (leb 4 (length slip)) (true-T _ room))
+  slip-room = leb→le 4 (length slip) (and-l (leb 4 (length slip)) (hasRoom places) (true-T _ room))

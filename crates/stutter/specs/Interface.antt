@@ -35,7 +35,7 @@ slipIn places = record { left = getD places 0 0; right = getD places 1 0; relati
 
 -- Whether there are places for an answer and for a slip.
 unfoldable pub haveRoom : (slip places : List ℕ) → Bool
-haveRoom slip places = hasRoom places && leb 4 (length slip)
+haveRoom slip places = leb 4 (length slip) && hasRoom places
 
 -- What is there after the call: what is written, or what was there before where the places are too few for either.
 unfoldable pub whereBoth : (slip places written before : List ℕ) → List ℕ

@@ -68,10 +68,10 @@ fn slip_in(places: &[u64]) -> Slip
 fn have_room(slip: &[u64], answer: &[u64]) -> bool
     ensures { λ r. ⌜ r ≡ haveRoom (now (slip .entry)) (now (answer .entry)) ⌝ }
 {
-    if answer.len() < PLACES {
+    if slip.len() < SLIP {
         return false;
     }
-    slip.len() >= SLIP
+    answer.len() >= PLACES
 }
 
 // Judges the certificate. The six numbers go to the first six places of `answer`; where it has fewer, nothing is written and false is returned.

@@ -1,4 +1,4 @@
--- `stutter::have_room` meets its contract: six places for the answer, and four for the slip. Assumes nothing.
+-- `stutter::have_room` meets its contract: four places for the slip, and six for the answer. Assumes nothing.
 use lib.ListN.{length}
 use denote.Ref.{now}
 use borrow.Author.Tests.{le-leb, lt-leb}
@@ -8,11 +8,11 @@ use Rattle.stutter.proofs.have_room.Tie as tie
 
 returns : tie.Need-returns
 unfolding hasRoom haveRoom
-returns c = rw (lt-leb 6 (length (now (c .before .args .answer))) (c .if1 .taken))
+returns c = rw (lt-leb 4 (length (now (c .before .args .slip))) (c .if1 .taken))
 
 returns-2 : tie.Need-returns-2
 unfolding hasRoom haveRoom
-returns-2 c = rw (le-leb 6 (length (now (c .before .args .answer))) (c .if1 .left))
+returns-2 c = rw (le-leb 4 (length (now (c .before .args .slip))) (c .if1 .left))
 
 pub have-room-spec : {M : Type 1} → statement M
 have-room-spec =
