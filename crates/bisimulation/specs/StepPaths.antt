@@ -1,4 +1,5 @@
--- The path property where a path names its steps: the blocks of states are those of the plain one, and two things are asked of the steps besides.
+-- The path property where a path names its steps too (document 02, Ask 9): the blocks of states are those of the plain one, and it adds that steps inside
+-- blocks are silent and that the steps that enter same-numbered blocks have equal keys. Keys are told by the view: a step serves one with an equal key.
 -- A path from s is the list of its steps.
 use Prim.Native.Nat.{ℕ, _<_}
 use mathlib.Core.Path.{_≡_}
@@ -45,22 +46,31 @@ pub record SilentInside (S : System) (first : List ℕ) (later : List (List ℕ)
   pub in-first : All (λ j. T (S .silent j)) first
   pub in-later : All (λ b. All (λ j. T (S .silent j)) (tail b)) later
 
--- The cut is one of the own steps J from s and of a matching path of the other from t.
+-- The cut is one of the own path J from s and of a matching path of the other from t.
 pub record Fits (v : View) (s : ℕ) (J : List ℕ) (t : ℕ) (x : Cut) : Type 0 where
+  -- Its own steps are the path's, and the other's are a path from t.
   pub cut : ownSteps x ≡ J
   pub path : StepPath (v .other) t (otherSteps x)
+  -- The blocks of states are as in the plain property: equally many, none empty, none with more states than its table, and every state of a block related
+  -- to every state of the same-numbered block.
   pub same : SameBlocks v (stateBlocks (v .own) s (x .first) (x .later)) (stateBlocks (v .other) t (x .first′) (x .later′))
+  -- The steps inside blocks are silent, on both paths.
   pub silent : SilentInside (v .own) (x .first) (x .later)
   pub silent′ : SilentInside (v .other) (x .first′) (x .later′)
-  -- The steps that enter same-numbered blocks serve each other.
+  -- The steps that enter same-numbered blocks have equal keys: they serve each other.
   pub entered : (i : ℕ) → i < length (x .later) → T (v .serves (entering (x .later) i) (entering (x .later′) i))
+  -- The other path ends in a dead end if the given one does.
   pub terminal : Terminal (v .own) (endState (v .own) s J) → Terminal (v .other) (endState (v .other) t (otherSteps x))
 
+-- For every related pair and every finite path from the own state there is a matching path from the other.
 abbrev pub StepPathsMatched : View → Type 0
 StepPathsMatched v = (s t : ℕ) → T (v .related s t) → (J : List ℕ) → StepPath (v .own) s J → (x : Cut) × Fits v s J t x
 
 pub record StepPathProperty (v : View) : Type 0 where
+  -- The starts are related: each start of either table to some start of the other.
   pub starts : StartsRule v
+  -- Related states have equal marks.
   pub labels : LabelsEqual v
+  -- Paths from either state of a related pair are matched.
   pub own-paths : StepPathsMatched v
   pub other-paths : StepPathsMatched (flip v)

@@ -2,17 +2,17 @@
 -- view is well formed. Assumes nothing.
 use Prim.Native.Nat.{ℕ, _*_, _≤_, _<_}
 use mathlib.Core.Path.{_≡_}
-use mathlib.Core.Bool.{Bool, true}
+use mathlib.Core.Bool.{Bool}
 use mathlib.Core.List.{List}
 use native.Mathlib.Nat.{mod-eq-of-lt}
 use native.Mathlib.Omega.{arith}
 use native.Mathlib.Decide.{decLt}
-use lib.Dec.{T}
+use lib.Dec.{T, eqb}
 use lib.ListN.{length}
 use Rattle.words.proofs.BitLaws.{has-lt}
 use Rattle.bisimulation.specs.Systems.{SideFormed, WellFormed}
 use Rattle.tables.specs.declared.Head.{Head}
-use Rattle.tables.specs.Table.{statesOf, stepsOf}
+use Rattle.tables.specs.Table.{statesOf, stepsOf, keyIn}
 use Rattle.tables.specs.Model.{systemOf}
 use Rattle.answers.specs.Numbers.{sixNumbers}
 use Rattle.table_reader.specs.declared.TableRead.the-variants as table
@@ -24,7 +24,7 @@ use Rattle.certificates.specs.declared.Sizes.{Sizes}
 use Rattle.certificates.specs.Layout.{sizesFor, sizesOf, certificateLength, rowsPart, rowOf}
 use Rattle.certificates.specs.CertificateModel.{AreBytes, relatedIn, viewOf}
 use Rattle.certificates.proofs.LayoutLaws.{length-limit}
-use Rattle.certificates.proofs.ModelLaws.{related-left, related-bit, row-word}
+use Rattle.certificates.proofs.ModelLaws.{related-left, related-bit, row-word, quiet-keys}
 use Rattle.certificate_reader.specs.declared.CertificateRead.the-variants as read
 use Rattle.certificate_reader.specs.declared.RelationRead.the-variants as relations
 use Rattle.certificate_reader.specs.CertificateReading.{readCertificate, readRelation}
@@ -106,11 +106,12 @@ related-right rows n1 {n2} s t bytes narrow h = elim (decLt t n2) [
 
 -- ---- the theory's view and ranks
 
--- a side whose table is read, and whose related states are states
-side-formed : (s other : List ℕ) (related : ℕ → ℕ → Bool) → TableFormed s → ((x y : ℕ) → T (related x y) → x < statesOf s)
-    → SideFormed (record { own = systemOf s; other = systemOf other; related = related; serves = λ j k. true })
+-- a side whose table is read, whose related states are states, and whose silent steps serve each other
+side-formed : (s other : List ℕ) (related serves : ℕ → ℕ → Bool) → TableFormed s → ((x y : ℕ) → T (related x y) → x < statesOf s)
+    → ((j k : ℕ) → T (eqb (keyIn s j) 0) → T (eqb (keyIn other k) 0) → T (serves j k))
+    → SideFormed (record { own = systemOf s; other = systemOf other; related = related; serves = serves })
 unfolding systemOf
-side-formed s other related f r = record { from< = f .from<; to< = f .to<; related< = r; initial< = f .initial<; quiet = λ j k a b. tt }
+side-formed s other related serves f r q = record { from< = f .from<; to< = f .to<; related< = r; initial< = f .initial<; quiet = q }
 
 module _ (left right rows : List ℕ) where
   pub view-formed : {h k : Head} → readTable left ≡ table.Good h → readTable right ≡ table.Good k → AreBytes rows
@@ -118,6 +119,8 @@ module _ (left right rows : List ℕ) where
   unfolding viewOf
   view-formed l r bytes narrow =
       record {
-        here = side-formed left right _ (table-formed left l) (λ s t. related-left rows (statesOf left) s t);
-        there = side-formed right left _ (table-formed right r) (λ t s. related-right rows (statesOf left) s t bytes narrow);
+        here = side-formed left right _ _ (table-formed left l) (λ s t. related-left rows (statesOf left) s t)
+            (λ j k. quiet-keys (keyIn left j) (keyIn right k));
+        there = side-formed right left _ _ (table-formed right r) (λ t s. related-right rows (statesOf left) s t bytes narrow)
+            (λ k j g h. quiet-keys (keyIn left j) (keyIn right k) h g);
       }

@@ -1,23 +1,25 @@
--- Laws of the rows and of the theory's view: the relation is told by the bytes of the rows alone, the view is plain, and each rank is a byte.
--- Assumes nothing.
+-- Laws of the rows and of the theory's view: the relation is told by the bytes of the rows alone, without keys the view is plain, and each rank
+-- is a byte. Assumes nothing.
 use Prim.Native.Nat.{ℕ, _+_, _*_, _^_, _<_}
-use mathlib.Core.Path.{_≡_, refl, ap, _∙_}
+use mathlib.Core.Path.{_≡_, refl, sym, ap, _∙_}
 use mathlib.Core.Bool.{Bool, true, false, _&&_}
 use mathlib.Core.List.{List}
 use native.Mathlib.Nat.{le-refl}
 use native.Mathlib.Omega.{arith}
 use native.Mathlib.Decide.{decLt}
-use lib.Dec.{T, ltb, ltb→lt}
+use lib.Dec.{T, ltb, ltb→lt, eqb, eqb→eq}
 use lib.ListN.{length, length-take}
 use borrow.Author.Tests.{ltb-true}
 use Rattle.lists.specs.Lists.{part}
 use Rattle.lists.specs.Numbers.{byteAt}
-use Rattle.lists.proofs.BoolLaws.{and-l, and-r}
+use Rattle.lists.proofs.BoolLaws.{and-l, and-r, eq→eqb}
 use Rattle.lists.proofs.FillLaws.{getD-part, getD-past, part-length}
 use Rattle.lists.proofs.NumberLaws.{big-fits, big-cong}
 use Rattle.words.specs.Bits.{hasBit}
 use Rattle.bisimulation.specs.Systems.{Bytes, Plain}
+use Rattle.tables.specs.Table.{keyed, keyIn}
 use Rattle.tables.specs.Model.{systemOf}
+use Rattle.tables.proofs.KindLaws.{plain-silent}
 use Rattle.certificates.specs.declared.Sizes.{Sizes}
 use Rattle.certificates.specs.Layout.{certificateLength, certificateHeaderLength, alAt, rowsPart, rowOf}
 use Rattle.certificates.specs.CertificateModel.{AreBytes, relatedIn, viewOf, ranksOf}
@@ -81,9 +83,19 @@ row-word rows s h = big-fits rows (s * 8) 8 h (le-refl 8)
 
 -- ---- the theory's view and ranks
 
-pub view-plain : (left right rows : List ℕ) → Plain (viewOf left right rows)
+-- two silent steps have the same key
+pub quiet-keys : (a b : ℕ) → T (eqb a 0) → T (eqb b 0) → T (eqb a b)
+quiet-keys a b g h = eq→eqb a b (eqb→eq a 0 g ∙ sym (eqb→eq b 0 h))
+
+-- without keys every step is silent and serves every other
+pub view-plain : (left right rows : List ℕ) → keyed left ≡ false → keyed right ≡ false → Plain (viewOf left right rows)
 unfolding viewOf systemOf
-view-plain left right rows = record { silent = λ j. tt; silent′ = λ k. tt; serves = λ j k. tt }
+view-plain left right rows p q =
+    record {
+      silent = plain-silent left p;
+      silent′ = plain-silent right q;
+      serves = λ j k. quiet-keys (keyIn left j) (keyIn right k) (plain-silent left p j) (plain-silent right q k);
+    }
 
 pub ranks-bytes : (z : Sizes) (c : List ℕ) → AreBytes c → Bytes (ranksOf z c)
 unfolding ranksOf

@@ -1,11 +1,14 @@
 -- Where the judge accepts, every obligation is met, and the two sides that are made of the same bytes hold what it judged. Assumes nothing.
 use Prim.Native.Nat.{ℕ}
 use mathlib.Core.Path.{_≡_}
+use mathlib.Core.Bool.{false}
 use mathlib.Core.List.{List}
 use Rattle.bisimulation.specs.Clauses.{Meets, EveryObligation}
 use Rattle.bisimulation.specs.Systems.{flip, swap}
 use Rattle.answers.proofs.CauseLaws.{append-none}
-use Rattle.table_reader.specs.TableCauses.{tableCauses}
+use Rattle.tables.specs.Table.{keyed}
+use Rattle.sides.specs.Built.{PlainSide}
+use Rattle.table_pairs.specs.PairCauses.{tablesCauses}
 use Rattle.certificates.specs.Layout.{sizesOf}
 use Rattle.certificates.specs.CertificateModel.{AreBytes, certifiedView, certifiedRanks}
 use Rattle.certificate_reader.specs.CertificateCauses.{certificateCauses}
@@ -15,17 +18,16 @@ use Rattle.starts.specs.StartsNamed.{startsNamed}
 use Rattle.starts.specs.StartsCauses.{startsCauses}
 use Rattle.obligations.proofs.JudgingLaws.{none-iff}
 use Rattle.checker.specs.Judge.{judgeAnswer}
-use Rattle.checker.proofs.JudgeCauseLaws.{afterStarts, afterCertificate, afterRight, afterLeft, zero-none, zero-read}
-use Rattle.checker.proofs.SidesReadLaws.{SidesRead, formed, made-sizes, sides-read}
+use Rattle.checker.proofs.JudgeCauseLaws.{afterStarts, afterCertificate, afterTables, zero-none, zero-read}
+use Rattle.checker.proofs.SidesReadLaws.{SidesRead, formed, made-sizes, sides-plain, sides-read}
 
 -- every obligation of both tables is met
 pub accepted-met : (left right c : List ℕ) → judgeAnswer left right c .code ≡ 0 → AreBytes c
     → EveryObligation Meets (certifiedView left right c) (certifiedRanks left right c)
     × EveryObligation Meets (flip (certifiedView left right c)) (swap (certifiedRanks left right c))
 accepted-met left right c zero bytes =
-    let a = append-none (tableCauses 0 left) (afterLeft left right c) (zero-none left right c zero) in
-    let b = append-none (tableCauses 1 right) (afterRight left right c) (a .1) in
-    let d = append-none (certificateCauses 2 (sizesOf left right) c) (afterCertificate left right c) (b .1) in
+    let a = append-none (tablesCauses left right) (afterTables left right c) (zero-none left right c zero) in
+    let d = append-none (certificateCauses 2 (sizesOf left right) c) (afterCertificate left right c) (a .1) in
     let e = append-none (startsCauses (certifiedView left right c) (startsNamed left right)) (afterStarts left right c) (d .1) in
     let m = none-iff (certifiedView left right c) (formed left right c (zero-read left right c zero) bytes) (certifiedRanks left right c) .0 (e .1) in
     (m .1, m .2)
@@ -36,3 +38,6 @@ module _ (left right c : List ℕ) (zero : judgeAnswer left right c .code ≡ 0)
 
   pub accepted-sides : AreBytes c → SidesRead left right c (s .ours) (s .theirs)
   accepted-sides = sides-read left right c (zero-read left right c zero) (certified .made)
+
+  pub accepted-plain : keyed left ≡ false → keyed right ≡ false → PlainSide (s .ours) × PlainSide (s .theirs)
+  accepted-plain = sides-plain left right c (zero-read left right c zero) (certified .made)

@@ -1,22 +1,25 @@
 -- The judge's verdict is decided by its causes: it refuses with the numbers of the first that applies, and goes on where none does. Assumes nothing.
 use Prim.Native.Nat.{ℕ}
 use mathlib.Core.Path.{_≡_, refl}
-use mathlib.Core.List.{List, _++_, flatMap}
+use mathlib.Core.Bool.{Bool}
+use mathlib.Core.List.{List, [], _∷_, _++_, flatMap}
+use lib.Dec.{T}
 use Rattle.bisimulation.specs.Systems.{View, Ranks}
-use Rattle.answers.specs.Causes.{Cause, NoCause, Numbered}
+use Rattle.answers.specs.Causes.{Cause, NoCause, Numbered, allows}
 use Rattle.answers.proofs.CauseLaws as causes
 use Rattle.answers.proofs.CauseLaws.{append-none, numbered-append, numbered-flat}
 use Rattle.answers.proofs.VerdictLaws.{Decided, Anything, decided-then, decided-along, decided-go, decided-answer}
-use Rattle.table_reader.specs.TableCauses.{tableCauses}
 use Rattle.table_reader.specs.TableReading.{headOf}
-use Rattle.table_reader.proofs.TableCauseLaws.{formed-good, after-table, table-numbers, none-good}
+use Rattle.table_reader.proofs.TableCauseLaws.{formed-good}
+use Rattle.table_pairs.specs.PairCauses.{tablesCauses}
+use Rattle.table_pairs.proofs.PairCauseLaws.{tables-none, formed-read, after-tables, tables-numbers}
 use Rattle.table_reader.proofs.TableLaws.{table-formed}
 use Rattle.certificates.specs.Layout.{sizesOf}
 use Rattle.certificates.specs.CertificateModel.{viewOf, certifiedView, certifiedRanks}
 use Rattle.certificate_reader.specs.CertificateReading.{readCertificate}
 use Rattle.certificate_reader.specs.CertificateVerdicts.{certificateVerdict}
 use Rattle.certificate_reader.specs.CertificateCauses.{certificateCauses}
-use Rattle.certificate_reader.proofs.CertificateCauseLaws.{certificate-decided, certificate-numbers, certificate-none-good}
+use Rattle.certificate_reader.proofs.CertificateCauseLaws.{certificateNumbers, certificate-decided, certificate-numbers, certificate-none-good}
 use Rattle.starts.specs.StartsNamed.{StartsNamed, startsNamed}
 use Rattle.obligations.specs.CheckCauses.{checkCauses}
 use Rattle.starts.specs.StartsCauses.{startsCauses}
@@ -40,35 +43,34 @@ module _ (left right c : List ℕ) where
   pub judge-decided : Decided Anything (judgeCauses left right c) (judgeVerdict left right c)
   unfolding judgeVerdict judgedBytes viewOf
   judge-decided =
-      after-table 0 left λ l. after-table 1 right λ k.
+      after-tables left right λ w.
       decided-then (certificateVerdict 2 (readCertificate (sizesOf left right) c)) (certificate-decided 2 (sizesOf left right) c) λ z e n.
       judged-decided (certifiedView left right c) (certifiedRanks left right c) (startsNamed left right)
-      (table-formed left (formed-good left l) .initial<) (table-formed right (formed-good right k) .initial<)
+      (table-formed left (formed-good left (w .left-formed)) .initial<) (table-formed right (formed-good right (w .right-formed)) .initial<)
 
-  -- the causes after the starts, and after each file
+  -- the causes after the starts, after the certificate, and after the tables
   abbrev pub afterStarts : List Cause
   afterStarts = flatMap (checkCauses (certifiedView left right c) (certifiedRanks left right c)) (checks (certifiedView left right c))
 
   abbrev pub afterCertificate : List Cause
   afterCertificate = startsCauses (certifiedView left right c) (startsNamed left right) ++ afterStarts
 
-  abbrev pub afterRight : List Cause
-  afterRight = certificateCauses 2 (sizesOf left right) c ++ afterCertificate
+  abbrev pub afterTables : List Cause
+  afterTables = certificateCauses 2 (sizesOf left right) c ++ afterCertificate
 
-  abbrev pub afterLeft : List Cause
-  afterLeft = tableCauses 1 right ++ afterRight
+  -- 10 to 15, then 16, then 17 to 19 with the file 2
+  pub after-numbers : (f : ℕ → ℕ → Bool) → T (allows f 2 certificateNumbers) → T (f 16 2) → T (allows f 2 (17 ∷ 18 ∷ 19 ∷ [])) → Numbered f afterTables
+  after-numbers f h k l =
+      numbered-append f (certificateCauses 2 (sizesOf left right) c) afterCertificate (certificate-numbers f 2 h (sizesOf left right) c)
+      (numbered-append f (startsCauses (certifiedView left right c) (startsNamed left right)) afterStarts
+      (starts-numbers f k (certifiedView left right c) (startsNamed left right))
+      (numbered-flat f (checkCauses (certifiedView left right c) (certifiedRanks left right c))
+      (check-numbers f l (certifiedView left right c) (certifiedRanks left right c)) (checks (certifiedView left right c))))
 
-  -- 1 to 9 and 24 with the file 0 or 1, and 10 to 19 with the file 2
+  -- a table's with the file 0 or 1, 30 with the file 1, and 10 to 19 with the file 2
   pub judge-numbers : Numbered judgeNumber (judgeCauses left right c)
   judge-numbers =
-      numbered-append judgeNumber (tableCauses 0 left) afterLeft (table-numbers judgeNumber 0 tt left)
-      (numbered-append judgeNumber (tableCauses 1 right) afterRight (table-numbers judgeNumber 1 tt right)
-      (numbered-append judgeNumber (certificateCauses 2 (sizesOf left right) c) afterCertificate
-      (certificate-numbers judgeNumber 2 tt (sizesOf left right) c)
-      (numbered-append judgeNumber (startsCauses (certifiedView left right c) (startsNamed left right)) afterStarts
-      (starts-numbers judgeNumber tt (certifiedView left right c) (startsNamed left right))
-      (numbered-flat judgeNumber (checkCauses (certifiedView left right c) (certifiedRanks left right c))
-      (check-numbers judgeNumber tt (certifiedView left right c) (certifiedRanks left right c)) (checks (certifiedView left right c))))))
+      numbered-append judgeNumber (tablesCauses left right) afterTables (tables-numbers left right judgeNumber tt tt tt) (after-numbers judgeNumber tt tt tt)
 
   -- where the code is 0, no cause applies, and all three files are read
   pub zero-none : judgeAnswer left right c .code ≡ 0 → NoCause (judgeCauses left right c)
@@ -80,12 +82,13 @@ module _ (left right c : List ℕ) where
 
   pub zero-read : judgeAnswer left right c .code ≡ 0 → AllRead left right c (headOf left) (headOf right)
   zero-read e =
-      let a = append-none (tableCauses 0 left) afterLeft (zero-none e) in
-      let b = append-none (tableCauses 1 right) afterRight (a .1) in
-      let d = append-none (certificateCauses 2 (sizesOf left right) c) afterCertificate (b .1) in
+      let a = append-none (tablesCauses left right) afterTables (zero-none e) in
+      let d = append-none (certificateCauses 2 (sizesOf left right) c) afterCertificate (a .1) in
+      let read = formed-read left right (tables-none left right (a .0)) in
       record {
         sizes = sizesOf left right;
-        left-good = none-good 0 left (a .0);
-        right-good = none-good 1 right (b .0);
+        left-good = read .left-good;
+        right-good = read .right-good;
+        one-kind = read .one-kind;
         certificate-good = certificate-none-good 2 (sizesOf left right) c (d .0);
       }

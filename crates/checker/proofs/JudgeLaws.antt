@@ -1,14 +1,14 @@
 -- The judge's answer, read by read: the first file that is refused, or the verdict on all three. Assumes nothing.
 use Prim.Native.Nat.{ℕ}
-use mathlib.Core.Path.{_≡_}
+use mathlib.Core.Path.{_≡_, sym, ap, _∙_}
 use mathlib.Core.List.{List}
-use Rattle.answers.specs.Verdicts.{refusalOf}
-use Rattle.tables.specs.declared.Head.{Head}
-use Rattle.table_reader.specs.TableReading.{readTable}
-use Rattle.table_reader.specs.TableVerdicts.{tableVerdict}
-use Rattle.refusals.specs.declared.TableRefusal.{TableRefusal}
-use Rattle.table_reader.specs.declared.TableRead.{TableRead}
-use Rattle.table_reader.specs.declared.TableRead.the-variants as table
+use Rattle.answers.specs.Verdicts.{goOn, refusalOf}
+use Rattle.answers.specs.declared.Answer.{Answer}
+use Rattle.table_pairs.specs.declared.Heads.{Heads}
+use Rattle.table_pairs.specs.declared.TablesRead.{TablesRead}
+use Rattle.table_pairs.specs.declared.TablesRead.the-variants.{Refused}
+use Rattle.table_pairs.specs.TablePairs.{tablesVerdict, asTablesRead, tablesRefusal}
+use Rattle.table_pairs.proofs.PairLaws.{was-refused}
 use Rattle.certificates.specs.Layout.{sizesOf}
 use Rattle.certificates.specs.declared.Sizes.{Sizes}
 use Rattle.certificate_reader.specs.CertificateReading.{readCertificate}
@@ -19,21 +19,16 @@ use Rattle.certificate_reader.specs.declared.CertificateRead.the-variants as ce
 use Rattle.checker.specs.Judge.{judgeVerdict, readAnswer, judgeAnswer}
 
 module _ (left right c : List ℕ) where
-  pub left-refused : {x : TableRead} {r : TableRefusal} → x ≡ readTable left → x ≡ table.Refused r → refusalOf (tableVerdict 0 x) ≡ judgeAnswer left right c
+  pub tables-refused : {x : TablesRead} {a : Answer} → x ≡ asTablesRead (tablesVerdict left right) → x ≡ Refused a → tablesRefusal x ≡ judgeAnswer left right c
   unfolding judgeAnswer judgeVerdict
-  left-refused e q = rw (← e, q)
+  tables-refused {a = a} e q = ap tablesRefusal q ∙ sym (rw (was-refused (tablesVerdict left right) a (sym e ∙ q)))
 
-  module _ {h : Head} (gl : readTable left ≡ table.Good h) where
-    pub right-refused : {x : TableRead} {r : TableRefusal} → x ≡ readTable right → x ≡ table.Refused r → refusalOf (tableVerdict 1 x) ≡ judgeAnswer left right c
+  module _ {h : Heads} (read : tablesVerdict left right ≡ goOn h) where
+    pub certificate-refused : {x : CertificateRead} {r : CertificateRefusal} → x ≡ readCertificate (sizesOf left right) c → x ≡ certificate.Refused r
+        → refusalOf (certificateVerdict 2 x) ≡ judgeAnswer left right c
     unfolding judgeAnswer judgeVerdict
-    right-refused e q = rw (gl, ← e, q)
+    certificate-refused e q = rw (read, ← e, q)
 
-    module _ {k : Head} (gr : readTable right ≡ table.Good k) where
-      pub certificate-refused : {x : CertificateRead} {r : CertificateRefusal} → x ≡ readCertificate (sizesOf left right) c → x ≡ certificate.Refused r
-          → refusalOf (certificateVerdict 2 x) ≡ judgeAnswer left right c
-      unfolding judgeAnswer judgeVerdict
-      certificate-refused e q = rw (gl, gr, ← e, q)
-
-      pub all-read : {z : Sizes} → readCertificate (sizesOf left right) c ≡ certificate.Good z → judgeAnswer left right c ≡ readAnswer left right c
-      unfolding judgeAnswer judgeVerdict
-      all-read gc = rw (gl, gr, gc)
+    pub all-read : {z : Sizes} → readCertificate (sizesOf left right) c ≡ certificate.Good z → judgeAnswer left right c ≡ readAnswer left right c
+    unfolding judgeAnswer judgeVerdict
+    all-read gc = rw (read, gc)

@@ -2,10 +2,11 @@
 -- Assumes nothing.
 use Prim.Native.Nat.{ℕ}
 use mathlib.Core.Path.{_≡_, refl, sym, ap, ap₂, _∙_, subst}
+use mathlib.Core.Bool.{false}
 use mathlib.Core.List.{List}
 use Rattle.bisimulation.specs.Systems.{WellFormed, flip}
 use Rattle.tables.specs.declared.Head.{Head}
-use Rattle.tables.specs.Table.{statesOf, labelsPart, stepsPart}
+use Rattle.tables.specs.Table.{keyed, statesOf, labelsPart, stepsPart}
 use Rattle.certificates.specs.declared.Sizes.{Sizes}
 use Rattle.certificates.specs.Layout.{sizesOf, rowsPart}
 use Rattle.certificates.specs.CertificateModel.{AreBytes, ranksOf, certifiedView, certifiedRanks}
@@ -14,7 +15,8 @@ use Rattle.certificate_reader.proofs.CertificateLaws.{certificate-ok, sizes-are
 use Rattle.relation_words.specs.Relation.{rowWords, columnWords}
 use Rattle.starts.specs.StartsNamed.{startsNamed, startsNamedIn}
 use Rattle.sides.specs.Views.{viewIn}
-use Rattle.sides.specs.Built.{SideOf}
+use Rattle.sides.specs.Built.{SideOf, PlainSide}
+use Rattle.sides.proofs.PlainLaws.{side-plain}
 use Rattle.sides.proofs.ViewLaws.{view-is, view-flipped, side-linked}
 use Rattle.starts.proofs.OnSidesLaws.{starts-named}
 use Rattle.certified_sides.specs.Made.{SidesMade}
@@ -48,6 +50,10 @@ module _ (left right c : List ℕ) {h k : Head} (read : AllRead left right c h k
 
     right-side : SideOf k (labelsPart right) (stepsPart right) (columnWords (rowWords (rowsPart c (sizesOf left right)) (statesOf left))) theirs
     right-side = rw (made .labels-is′, made .columns-is, made-words, made .steps-is′) at (made .theirs-is)
+
+    -- of tables without keys they are the sides of such tables
+    pub sides-plain : keyed left ≡ false → keyed right ≡ false → PlainSide ours × PlainSide theirs
+    sides-plain p q = (side-plain left (read .left-good) left-side p, side-plain right (read .right-good) right-side q)
 
     pub sides-read : AreBytes c → SidesRead left right c ours theirs
     unfolding ranksOf

@@ -1,5 +1,5 @@
 -- The judge's answer for any three byte strings (document 01, The answer): the first cause that applies of the left table's, the right
--- table's, 10 to 15, 16, and then labels and obligations in judging order; or the counts.
+-- table's, 30, 10 to 15, 16, and then labels and obligations in judging order; or the counts.
 use Prim.Native.Nat.{ℕ}
 use mathlib.Core.Path.{_≡_}
 use mathlib.Core.List.{List}
@@ -8,7 +8,8 @@ use Rattle.words.specs.Bits.{countBits}
 use Rattle.bisimulation.specs.Systems.{View, Ranks}
 use Rattle.tables.specs.Table.{statesOf}
 use Rattle.table_reader.specs.TableReading.{readTable}
-use Rattle.table_reader.specs.TableVerdicts.{tableVerdict}
+use Rattle.table_pairs.specs.TablePairs.{tablesVerdict}
+use Rattle.table_pairs.specs.PairCauses.{OneKind}
 use Rattle.answers.specs.Verdicts.{Verdict, _andThen_, along, answerOf}
 use Rattle.answers.specs.declared.Answer.{Answer}
 use Rattle.tables.specs.declared.Head.{Head}
@@ -25,11 +26,12 @@ use Rattle.starts.specs.StartsVerdict.{startsVerdict}
 use Rattle.sweeps.specs.declared.Tally.{Tally}
 use Rattle.sweeps.specs.Tallies.{none, tallied, acceptance}
 
--- Both tables and the certificate are read, the tables with these headers.
+-- Both tables and the certificate are read, the tables with these headers and of one kind.
 pub record AllRead (left right c : List ℕ) (head head′ : Head) : Type 0 where
   pub sizes : Sizes
   pub left-good : readTable left ≡ table.Good head
   pub right-good : readTable right ≡ table.Good head′
+  pub one-kind : OneKind left right
   pub certificate-good : readCertificate (sizesOf left right) c ≡ certificate.Good sizes
 
 -- The related pairs, as a count of one bits over the rows.
@@ -47,8 +49,7 @@ judgedBytes left right c = judged (certifiedView left right c) (certifiedRanks l
 -- The verdict on any three byte strings.
 unfoldable pub judgeVerdict : List ℕ → List ℕ → List ℕ → Verdict Tally
 judgeVerdict left right c =
-    tableVerdict 0 (readTable left) andThen λ head.
-    tableVerdict 1 (readTable right) andThen λ head′.
+    tablesVerdict left right andThen λ heads.
     certificateVerdict 2 (readCertificate (sizesOf left right) c) andThen λ sizes.
     judgedBytes left right c
 

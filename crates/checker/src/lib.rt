@@ -12,9 +12,9 @@ use sides::side_of;
 use starts::check_starts;
 use sweeps::Progress;
 use sweeps::check_all;
-use table_reader::TableRead;
-use table_reader::read_table;
-use table_reader::table_answer;
+use table_pairs::TablesRead;
+use table_pairs::read_tables;
+use table_pairs::tables_answer;
 use tables::Head;
 use tables::labels;
 use tables::steps;
@@ -106,17 +106,13 @@ fn certificate_answer(read: CertificateRead) -> Answer
 pub fn judge(left: &[u8], right: &[u8], certificate: &[u8]) -> Answer
     ensures { λ r. ⌜ r ≡ judgeAnswer (now (left .entry)) (now (right .entry)) (now (certificate .entry)) ⌝ }
 {
-    let first = read_table(left);
-    let TableRead::Good(head) = first else {
-        return table_answer(first, 0);
+    let tables = read_tables(left, right);
+    let TablesRead::Good(heads) = tables else {
+        return tables_answer(tables);
     };
-    let second = read_table(right);
-    let TableRead::Good(head2) = second else {
-        return table_answer(second, 1);
-    };
-    let third = read_certificate(certificate, Sizes::of(head, head2));
+    let third = read_certificate(certificate, Sizes::of(heads.left, heads.right));
     let CertificateRead::Good(_) = third else {
         return certificate_answer(third);
     };
-    judge_read(left, right, certificate, head, head2)
+    judge_read(left, right, certificate, heads.left, heads.right)
 }

@@ -17,7 +17,7 @@ use Rattle.answers.proofs.CauseLaws.{append-none, refused-iff, zero-none}
 use Rattle.answers.proofs.DecideLaws.{eqb-decides, ltb-decides, decides-true, decides-false, decides-either, decides-stable}
 use Rattle.answers.proofs.VerdictLaws.{on-none, refused-first, decided-answer, refused-output}
 use Rattle.certificates.specs.CertificateModel.{AreBytes}
-use Rattle.inputs.specs.declared.Heads.{Heads}
+use Rattle.table_pairs.specs.declared.Heads.{Heads}
 use Rattle.inputs.specs.Inputs.{readVerdict}
 use Rattle.inputs.specs.InputCauses.{inputCauses, inputCode}
 use Rattle.inputs.proofs.InputCauseLaws.{inputs-decided, input-first}

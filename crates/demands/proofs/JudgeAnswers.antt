@@ -15,8 +15,7 @@ use Rattle.answers.proofs.CauseLaws.{refused-iff, zero-none, none-zero}
 use Rattle.answers.proofs.VerdictLaws.{then-on, decided-answer}
 use Rattle.tables.specs.Table.{statesOf, stepsOf}
 use Rattle.tables.specs.Model.{systemOf}
-use Rattle.table_reader.specs.TableReading.{readTable}
-use Rattle.table_reader.specs.TableVerdicts.{tableVerdict}
+use Rattle.table_pairs.specs.TablePairs.{tablesVerdict}
 use Rattle.certificates.specs.Layout.{sizesOf, rowsPart, rowOf}
 use Rattle.certificates.specs.CertificateModel.{viewOf, certifiedView as view, certifiedRanks as ranks}
 use Rattle.certificate_reader.specs.CertificateReading.{readCertificate}
@@ -57,9 +56,8 @@ module _ (left right c : List ℕ) where
   counted y e =
       let v = view left right c in
       let r = ranks left right c in
-      let a = then-on (tableVerdict 0 (readTable left)) e in
-      let b = then-on (tableVerdict 1 (readTable right)) (a .2) in
-      let d = then-on (certificateVerdict 2 (readCertificate (sizesOf left right) c)) (b .2) in
+      let a = then-on (tablesVerdict left right) e in
+      let d = then-on (certificateVerdict 2 (readCertificate (sizesOf left right) c)) (a .2) in
       let f = then-on (startsVerdict v (startsNamed left right)) (d .2) in
       let count : (clause : Clause) → Counts (CheckMetBy v r clause) (checks v) (countOf clause y) =
       λ clause.

@@ -12,12 +12,15 @@ use Rattle.bisimulation.specs.Judge.{accepts}
 use Rattle.bisimulation.specs.Namjoshi.{BisimulationWithoutConjunct, InitialStatesRelated}
 use Rattle.bisimulation.specs.Triples.{tripleRank}
 use Rattle.bisimulation.proofs.ClauseLaws.{accepts-iff}
+use Rattle.bisimulation.proofs.Literal.{literal-accepted, accepted-literal}
 use Rattle.bisimulation.proofs.NamjoshiTheorems.{bisimulation-accepted, accepted-bisimulation, certified-iff-triples}
 use Rattle.answers.specs.Causes.{NoCause}
 use Rattle.answers.proofs.CauseLaws.{none-append, append-none}
-use Rattle.table_reader.specs.TableCauses.{tableCauses}
-use Rattle.table_reader.proofs.TableCauseLaws.{formed-good, good-formed, good-none, none-good}
+use Rattle.table_reader.specs.TableReading.{headOf}
 use Rattle.table_reader.proofs.TableLaws.{table-formed}
+use Rattle.table_pairs.specs.PairCauses.{tablesCauses}
+use Rattle.table_pairs.proofs.PairCauseLaws.{tables-none, none-tables, formed-read}
+use Rattle.table_pairs.proofs.PairLaws.{BothRead}
 use Rattle.certificates.specs.Layout.{sizesOf, rowsPart}
 use Rattle.certificates.specs.CertificateModel.{AreBytes, viewOf, certifiedView as view, certifiedRanks as ranks}
 use Rattle.certificates.proofs.ModelLaws.{view-plain}
@@ -30,8 +33,8 @@ use Rattle.starts.proofs.StartsLaws.{starts-iff}
 use Rattle.checker.specs.Judge.{judgeAnswer}
 use Rattle.checker.specs.JudgeCauses.{judgeCauses}
 use Rattle.checker.proofs.SidesReadLaws.{formed}
-use Rattle.checker.proofs.JudgeCauseLaws.{afterStarts, afterCertificate, afterRight, afterLeft}
-use Rattle.demands.specs.Demand2.{AllWellFormed, JudgeExact}
+use Rattle.checker.proofs.JudgeCauseLaws.{afterStarts, afterCertificate, afterTables}
+use Rattle.demands.specs.Demand2.{BothPlain, AllWellFormed, TriplesExact, JudgeExact}
 use Rattle.demands.proofs.OneStartLaws.{names-starts}
 use Rattle.demands.proofs.JudgeAnswers.{zero-accepted, accepted-zero}
 
@@ -39,13 +42,17 @@ module _ (left right c : List ℕ) (bytes : AreBytes c) where
   -- ---- what well-formed files give the theory
 
   module _ (w : AllWellFormed left right c) where
+    read : BothRead left right (record { left = headOf left; right = headOf right })
+    read = formed-read left right (w .tables)
+
     pub formed-view : WellFormed (view left right c)
     formed-view =
         formed left right c
         (record {
           sizes = sizesOf left right;
-          left-good = formed-good left (w .left-formed);
-          right-good = formed-good right (w .right-formed);
+          left-good = read .left-good;
+          right-good = read .right-good;
+          one-kind = read .one-kind;
           certificate-good = certificate-none-good 2 (sizesOf left right) c (w .certificate-formed);
         })
         bytes
@@ -55,31 +62,27 @@ module _ (left right c : List ℕ) (bytes : AreBytes c) where
         ↔ StartsRule (view left right c)
     starts-are =
         starts-iff (view left right c) (formed-view .here .initial<) (formed-view .there .initial<) (startsNamed left right)
-        (names-starts left right (rowsPart c (sizesOf left right)) (formed-good left (w .left-formed)) (formed-good right (w .right-formed)))
+        (names-starts left right (rowsPart c (sizesOf left right)) (read .left-good) (read .right-good))
 
-    no-twice : NoTwice (view left right c .own) × NoTwice (view left right c .other)
-    unfolding viewOf
-    no-twice = (table-formed left (formed-good left (w .left-formed)) .no-twice, table-formed right (formed-good right (w .right-formed)) .no-twice)
+    module _ (p : BothPlain left right) where
+      no-twice : NoTwice (view left right c .own) × NoTwice (view left right c .other)
+      unfolding viewOf
+      no-twice = (table-formed left (read .left-good) .no-twice (p .0), table-formed right (read .right-good) .no-twice (p .1))
 
-    -- document 01's clauses are the paper's without the conjunct of 2c, with the rank of triples
-    triples-are : Certified Meets (view left right c) (ranks left right c)
-        ↔ (InitialStatesRelated (view left right c) × BisimulationWithoutConjunct (view left right c) _<_ (tripleRank (view left right c) (ranks left right c)))
-    triples-are =
-        certified-iff-triples (view left right c) formed-view (view-plain left right (rowsPart c (sizesOf left right)))
-        (no-twice .0) (no-twice .1) (ranks left right c)
+      -- document 01's clauses are the paper's without the conjunct of 2c, with the rank of triples
+      triples-are : Certified Meets (view left right c) (ranks left right c)
+          ↔ (InitialStatesRelated (view left right c) × BisimulationWithoutConjunct (view left right c) _<_ (tripleRank (view left right c) (ranks left right c)))
+      triples-are =
+          certified-iff-triples (view left right c) formed-view (view-plain left right (rowsPart c (sizesOf left right)) (p .0) (p .1))
+          (no-twice .0) (no-twice .1) (ranks left right c)
 
   -- ---- where no cause applies
 
   none-certified : NoCause (judgeCauses left right c) → AllWellFormed left right c × Certified Meets (view left right c) (ranks left right c)
   none-certified n =
-      let l = append-none (tableCauses 0 left) (afterLeft left right c) n in
-      let r = append-none (tableCauses 1 right) (afterRight left right c) (l .1) in
-      let d = append-none (certificateCauses 2 (sizesOf left right) c) (afterCertificate left right c) (r .1) in
-      let w : AllWellFormed left right c = record {
-        left-formed = l .0;
-        right-formed = good-formed right (none-good 1 right (r .0));
-        certificate-formed = d .0;
-      } in
+      let t = append-none (tablesCauses left right) (afterTables left right c) n in
+      let d = append-none (certificateCauses 2 (sizesOf left right) c) (afterCertificate left right c) (t .1) in
+      let w : AllWellFormed left right c = record { tables = tables-none left right (t .0); certificate-formed = d .0 } in
       let e = append-none (startsCauses (view left right c) (startsNamed left right)) (afterStarts left right c) (d .1) in
       let i = starts-are w .0 (e .0) in
       let m = none-iff (view left right c) (formed-view w) (ranks left right c) .0 (e .1) in
@@ -87,11 +90,10 @@ module _ (left right c : List ℕ) (bytes : AreBytes c) where
 
   certified-none : AllWellFormed left right c → Certified Meets (view left right c) (ranks left right c) → NoCause (judgeCauses left right c)
   certified-none w m =
-      none-append (tableCauses 0 left) (afterLeft left right c) (w .left-formed)
-      (none-append (tableCauses 1 right) (afterRight left right c) (good-none 1 right (formed-good right (w .right-formed)) .1)
+      none-append (tablesCauses left right) (afterTables left right c) (none-tables left right (w .tables))
       (none-append (certificateCauses 2 (sizesOf left right) c) (afterCertificate left right c) (w .certificate-formed)
       (none-append (startsCauses (view left right c) (startsNamed left right)) (afterStarts left right c) (starts-are w .1 (m .starts))
-      (none-iff (view left right c) (formed-view w) (ranks left right c) .1 (m .labels, m .own-met, m .other-met)))))
+      (none-iff (view left right c) (formed-view w) (ranks left right c) .1 (m .labels, m .own-met, m .other-met))))
 
   -- the judge accepts where the theory's does, and only there
   pub accepts-code : AllWellFormed left right c → T (accepts (view left right c) (ranks left right c)) → judgeAnswer left right c .code ≡ 0
@@ -102,18 +104,26 @@ module _ (left right c : List ℕ) (bytes : AreBytes c) where
       let q = none-certified (zero-accepted left right c e .0) in
       (q .0, accepts-iff (view left right c) (formed-view (q .0)) (ranks left right c) .1 (q .1))
 
-  pub judge-exact : JudgeExact left right c (judgeAnswer left right c)
-  judge-exact =
+  triples-exact : BothPlain left right → TriplesExact left right c (judgeAnswer left right c)
+  triples-exact p =
       let v = view left right c in
       let r = ranks left right c in
-      let k = view-plain left right (rowsPart c (sizesOf left right)) in
+      let k = view-plain left right (rowsPart c (sizesOf left right)) (p .0) (p .1) in
+      record {
+        triples = (
+          λ e. let q = none-certified (zero-accepted left right c e .0) in let x = triples-are (q .0) p .0 (q .1) in (q .0, x .0, x .1),
+          λ x. accepted-zero left right c (certified-none (x .0) (triples-are (x .0) p .1 (x .1, x .2))),
+        );
+        literal-accepted = λ w i b. accepts-code w (bisimulation-accepted v (formed-view w) k (no-twice w p .0) (no-twice w p .1) r i b);
+        accepted-raised = λ e. let q = code-accepts e in accepted-bisimulation v (formed-view (q .0)) k r (q .1);
+      }
+
+  pub judge-exact : JudgeExact left right c (judgeAnswer left right c)
+  judge-exact =
       record {
         certificates = (λ e. none-certified (zero-accepted left right c e .0), λ p. accepted-zero left right c (certified-none (p .0) (p .1)));
-        triples = (
-          λ e. let q = none-certified (zero-accepted left right c e .0) in let p = triples-are (q .0) .0 (q .1) in (q .0, p .0, p .1),
-          λ p. accepted-zero left right c (certified-none (p .0) (triples-are (p .0) .1 (p .1, p .2))),
-        );
         counted = λ e. zero-accepted left right c e .1;
-        literal-accepted = λ w i b. accepts-code w (bisimulation-accepted v (formed-view w) k (no-twice w .0) (no-twice w .1) r i b);
-        accepted-raised = λ e. let q = code-accepts e in accepted-bisimulation v (formed-view (q .0)) k r (q .1);
+        literal-accepted = λ w m. accepts-code w (literal-accepted (view left right c) (formed-view w) (ranks left right c) m);
+        accepted-raised = λ e. let q = code-accepts e in accepted-literal (view left right c) (formed-view (q .0)) (ranks left right c) (q .1);
+        plain = triples-exact;
       }

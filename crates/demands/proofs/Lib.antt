@@ -15,3 +15,4 @@ pub mod NextLaws
 pub mod FollowExact
 pub mod WriterExact
 pub mod EnquiryExact
+pub mod SilentKeys

@@ -11,7 +11,7 @@ use Rattle.lists.proofs.JoinLaws.{flat-all}
 use Rattle.bisimulation.specs.Systems.{View, Ranks, flip, swap}
 use Rattle.answers.specs.Causes.{Cause, NoCause}
 use Rattle.answers.proofs.CauseLaws.{append-none}
-use Rattle.table_reader.specs.TableCauses.{tableCauses}
+use Rattle.table_pairs.specs.PairCauses.{tablesCauses}
 use Rattle.certificates.specs.Layout.{sizesOf}
 use Rattle.certificates.specs.CertificateModel.{certifiedView as view, certifiedRanks as ranks}
 use Rattle.certificate_reader.specs.CertificateCauses.{certificateCauses}
@@ -28,7 +28,7 @@ use Rattle.starts.specs.StartsCauses.{startsCauses}
 use Rattle.obligations.specs.Judging.{Check, labelsOf, leftStep, rightStep, checks}
 use Rattle.obligations.proofs.OutcomeLaws.{outcome-is, first-one}
 use Rattle.checker.specs.Judge.{judgeAnswer}
-use Rattle.checker.proofs.JudgeCauseLaws.{afterStarts, afterCertificate, afterRight, afterLeft}
+use Rattle.checker.proofs.JudgeCauseLaws.{afterStarts, afterCertificate, afterTables}
 use Rattle.lister.specs.Listing.{Line, outcomeLines, checkLines, listing, printed}
 use Rattle.demands.specs.Ask2.{obligationsIn, Says, LineOf, ListingExact}
 use Rattle.demands.proofs.JudgeAnswers.{zero-accepted}
@@ -124,9 +124,8 @@ module _ (left right c : List ℕ) where
   none : judgeAnswer left right c .code ≡ 0 → All (None (view left right c) (ranks left right c)) (checks (view left right c))
   unfolding None
   none e =
-      let a = append-none (tableCauses 0 left) (afterLeft left right c) (zero-accepted left right c e .0) in
-      let b = append-none (tableCauses 1 right) (afterRight left right c) (a .1) in
-      let d = append-none (certificateCauses 2 (sizesOf left right) c) (afterCertificate left right c) (b .1) in
+      let a = append-none (tablesCauses left right) (afterTables left right c) (zero-accepted left right c e .0) in
+      let d = append-none (certificateCauses 2 (sizesOf left right) c) (afterCertificate left right c) (a .1) in
       let f = append-none (startsCauses (view left right c) (startsNamed left right)) (afterStarts left right c) (d .1) in
       flat-all (λ (x : Cause). ¬ x .condition) (checkCauses (view left right c) (ranks left right c)) (checks (view left right c)) (f .1)
 

@@ -11,8 +11,8 @@ use Rattle.answers.specs.Causes.{FirstCause, NoCause}
 use Rattle.answers.specs.declared.Answer.{Answer}
 use Rattle.answers.proofs.CauseLaws.{append-none, refused-iff, zero-none}
 use Rattle.answers.proofs.VerdictLaws.{decided-answer, refused-output}
-use Rattle.table_reader.specs.TableCauses.{tableCauses}
-use Rattle.table_reader.proofs.TableCauseLaws.{good-formed, none-good}
+use Rattle.table_pairs.specs.PairCauses.{tablesCauses}
+use Rattle.table_pairs.proofs.PairCauseLaws.{tables-none}
 use Rattle.certificates.specs.Layout.{sizesOf, certificateLength}
 use Rattle.certificates.specs.CertificateModel.{AreBytes}
 use Rattle.certificate_reader.specs.CertificateCauses.{relationCauses}
@@ -59,14 +59,8 @@ module _ (left right relation output : List ℕ) where
         → WellFormedInputs left right relation × (certificateLength (sizesOf left right) ≤ length output)
     made-given e =
         let n = append-none (inputCauses left right relation) _ (zero-made e .0) in
-        let t = append-none (tableCauses 0 left) _ (n .0) in
-        let r = append-none (tableCauses 1 right) (relationCauses 2 (sizesOf left right) relation) (t .1) in
+        let t = append-none (tablesCauses left right) (relationCauses 2 (sizesOf left right) relation) (n .0) in
         let room = n .1 .0 in (
-          record {
-            left-formed = t .0;
-            right-formed = good-formed right (none-good 1 right (r .0));
-            relation-formed = r .1;
-            relation-bytes = bytes;
-          },
+          record { tables = tables-none left right (t .0); relation-formed = t .1; relation-bytes = bytes },
           omega arith,
         )

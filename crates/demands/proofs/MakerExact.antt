@@ -15,15 +15,18 @@ use Rattle.lists.proofs.FillLaws.{put-front-fits}
 use Rattle.bisimulation.specs.Systems.{flip}
 use Rattle.bisimulation.specs.Maker.{made, succeeds}
 use Rattle.bisimulation.specs.PathProperty.{PathProperty}
+use Rattle.bisimulation.specs.StepPaths.{StepPathProperty}
 use Rattle.bisimulation.proofs.ClauseLaws.{flip-formed}
-use Rattle.bisimulation.proofs.Equivalences.{succeeds-iff-property, accepted-property}
+use Rattle.bisimulation.proofs.Equivalences.{succeeds-iff-steps}
+use Rattle.bisimulation.proofs.PlainPaths.{plain-iff-steps}
+use Rattle.bisimulation.proofs.Sound.{sound}
 use Rattle.bisimulation.proofs.Made.{made-accepted, made-bytes}
 use Rattle.tables.specs.Model.{systemOf}
 use Rattle.answers.specs.Verdicts.{passed}
 use Rattle.answers.specs.declared.Answer.{Answer}
 use Rattle.answers.proofs.VerdictLaws.{none-on}
 use Rattle.certificates.specs.Layout.{sizesOf, certificateLength}
-use Rattle.certificates.specs.CertificateModel.{viewOf, ranksOf}
+use Rattle.certificates.specs.CertificateModel.{AreBytes, viewOf, ranksOf}
 use Rattle.certificates.proofs.ModelLaws.{view-plain}
 use Rattle.starts.specs.StartsNamed.{startsNamed}
 use Rattle.files.specs.File.{certificateHeader, certificateFile}
@@ -34,7 +37,7 @@ use Rattle.inputs.proofs.InputLaws.{read-inputs}
 use Rattle.ranking.proofs.MakeAnswers.{made-by, room-verdict}
 use Rattle.ranking.proofs.MakerCauseLaws.{maker-decided}
 use Rattle.checker.specs.Judge.{judgeAnswer}
-use Rattle.demands.specs.Demand2.{WellFormedInputs}
+use Rattle.demands.specs.Demand2.{BothPlain, HasRows, WellFormedInputs}
 use Rattle.demands.specs.Demand3.{DefinedFile, MakerExact}
 use Rattle.demands.proofs.OneStartLaws.{names-starts}
 use Rattle.demands.proofs.MakerAnswers.{untouched, zero-made}
@@ -52,8 +55,14 @@ module _ (left right relation output : List ℕ) (given : WellFormedInputs left 
       examined-succeeds (viewOf left right relation) (given-formed left right relation given) (startsNamed left right)
       (names-starts left right relation (r .left-good) (r .right-good))
 
-  property-iff : T (succeeds (viewOf left right relation)) ↔ PathProperty (viewOf left right relation)
-  property-iff = succeeds-iff-property (viewOf left right relation) (given-formed left right relation given) (view-plain left right relation)
+  steps-iff : T (succeeds (viewOf left right relation)) ↔ StepPathProperty (viewOf left right relation)
+  steps-iff = succeeds-iff-steps (viewOf left right relation) (given-formed left right relation given)
+
+  -- without keys, over states
+  states-iff : BothPlain left right → StepPathProperty (viewOf left right relation) ↔ PathProperty (viewOf left right relation)
+  states-iff p =
+      let q = plain-iff-steps (viewOf left right relation) (given-formed left right relation given) (view-plain left right relation (p .0) (p .1)) in
+      (q .1, q .0)
 
   -- the maker goes on to the end exactly where the theory's succeeds
   succeeds-passed : T (succeeds (viewOf left right relation)) → makeVerdict left right relation output ≡ passed
@@ -128,20 +137,28 @@ module _ (left right relation output : List ℕ) (given : WellFormedInputs left 
     certificate-is : take (certificateLength (sizesOf left right)) (makeOutput left right relation output) ≡ fileFor left right relation
     certificate-is = ap (take (certificateLength (sizesOf left right))) output-is ∙ front-is
 
+  zero-iff : (makeAnswer left right relation output .code ≡ 0) ↔ StepPathProperty (viewOf left right relation)
+  zero-iff = (
+    λ z. steps-iff .0 (zero-succeeds z),
+    λ p. ap (λ (a : Answer). a .code) (sym (made-by left right relation output (succeeds-passed (steps-iff .1 p)) .0)),
+  )
+
+  accepted-steps : (c : List ℕ) → AreBytes c → HasRows left right relation c → judgeAnswer left right c .code ≡ 0
+      → StepPathProperty (viewOf left right relation)
+  accepted-steps c b r k =
+      sound (viewOf left right relation) (ranksOf (sizesOf left right) c) (given-formed left right relation given)
+      (accepted-file left right relation given c b r k)
+
   pub maker-exact : MakerExact left right relation output (makeAnswer left right relation output) (makeOutput left right relation output)
   maker-exact =
       record {
-        succeeds = (
-          λ z. property-iff .0 (zero-succeeds z),
-          λ p. ap (λ (a : Answer). a .code) (sym (made-by left right relation output (succeeds-passed (property-iff .1 p)) .0)),
-        );
+        succeeds = zero-iff;
+        plain-succeeds = λ p. (λ z. states-iff p .0 (zero-iff .0 z), λ q. zero-iff .1 (states-iff p .1 q));
         success = λ z. zero-made left right relation output (given .relation-bytes) z .1;
         written = λ z. subst (DefinedFile left right relation) (sym (certificate-is z)) (file-defined (zero-succeeds z));
         rest-stays = λ z. ap (drop (certificateLength (sizesOf left right))) (output-is z) ∙ back-is;
         judged = λ z. subst (λ (f : List ℕ). judgeAnswer left right f .code ≡ 0) (sym (certificate-is z)) (file-judged (zero-succeeds z));
         untouched = untouched left right relation output;
-        no-other = λ c b r k.
-            accepted-property (viewOf left right relation) (given-formed left right relation given) (view-plain left right relation)
-            (ranksOf (sizesOf left right) c)
-            (accepted-file left right relation given c b r k);
+        no-other = accepted-steps;
+        plain-no-other = λ p c b r k. states-iff p .0 (accepted-steps c b r k);
       }

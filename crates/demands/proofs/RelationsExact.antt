@@ -1,5 +1,5 @@
--- Demand 2 on bytes, which relations: some file that has the relation's rows is accepted exactly where the starts are related and the relation is the
--- paper's well-founded bisimulation. The key is that byte ranks make a file, whose rows and ranks are read back. Assumes nothing.
+-- Demand 2 on bytes, which relations: some file that has the relation's rows is accepted exactly where some byte ranks meet the paper's clauses, and
+-- without keys where the starts are related and the relation is the paper's well-founded bisimulation. The key is that byte ranks make a file, whose rows and ranks are read back. Assumes nothing.
 use Prim.Native.Nat.{ℕ, _*_, _≤_, _<_}
 use mathlib.Core.Path.{_≡_, sym, ap, _∙_, subst}
 use mathlib.Core.Logic.{_↔_}
@@ -11,12 +11,13 @@ use lib.Seq.{ext-getD}
 use Rattle.lists.specs.Numbers.{byteAt}
 use Rattle.bisimulation.specs.Systems.{View, Ranks, Bytes, WellFormed, flip, swap}
 use Rattle.bisimulation.specs.Judge.{accepts}
-use Rattle.bisimulation.specs.Namjoshi.{InitialStatesRelated, SomeRank}
+use Rattle.bisimulation.proofs.Literal.{accepted-iff-literal}
 use Rattle.bisimulation.proofs.NamjoshiTheorems.{accepted-iff-bisimulation}
 use Rattle.table_reader.specs.TableReading.{headOf}
 use Rattle.tables.specs.Model.{systemOf}
-use Rattle.table_reader.proofs.TableCauseLaws.{formed-good}
 use Rattle.table_reader.proofs.TableLaws.{table-ok}
+use Rattle.table_pairs.proofs.PairLaws.{BothRead}
+use Rattle.table_pairs.proofs.PairCauseLaws.{formed-read}
 use Rattle.certificates.specs.declared.Sizes.{Sizes}
 use Rattle.certificates.specs.Layout.{sizesOf, rowsPart}
 use Rattle.certificates.specs.CertificateModel.{AreBytes, viewOf, ranksOf}
@@ -27,7 +28,7 @@ use Rattle.files.specs.File.{certificateFile}
 use Rattle.files.proofs.FileLaws.{FitsHeader, file-rows, file-ranks, file-good, file-bytes}
 use Rattle.checker.specs.Judge.{judgeAnswer}
 use Rattle.inputs.specs.Inputs.{InputsRead}
-use Rattle.demands.specs.Demand2.{AllWellFormed, HasRows, WellFormedInputs}
+use Rattle.demands.specs.Demand2.{AllWellFormed, HasRows, SomeAccepted, WellFormedInputs, RelationsExact}
 use Rattle.demands.proofs.AgreeLaws.{AgreeInside, accepts-agree}
 use Rattle.demands.proofs.JudgeExact.{accepts-code, code-accepts}
 
@@ -35,13 +36,16 @@ module _ (left right relation : List ℕ) (given : WellFormedInputs left right r
   abbrev z : Sizes
   z = sizesOf left right
 
+  read : BothRead left right (record { left = headOf left; right = headOf right })
+  read = formed-read left right (given .tables)
+
   abbrev pub givenView : View
   givenView = viewOf left right relation
 
   pub given-formed : WellFormed givenView
   unfolding sizesOf
   given-formed =
-      view-formed left right relation (formed-good left (given .left-formed)) (formed-good right (given .right-formed)) (given .relation-bytes)
+      view-formed left right relation (read .left-good) (read .right-good) (given .relation-bytes)
       (relation-ok z relation (relation-none-good 2 z relation (given .relation-formed)) .1 .narrow)
 
   pub given-read : InputsRead left right relation
@@ -50,8 +54,9 @@ module _ (left right relation : List ℕ) (given : WellFormedInputs left right r
         head = headOf left;
         head′ = headOf right;
         sizes = sizesOf left right;
-        left-good = formed-good left (given .left-formed);
-        right-good = formed-good right (given .right-formed);
+        left-good = read .left-good;
+        right-good = read .right-good;
+        one-kind = read .one-kind;
         relation-good = relation-none-good 2 (sizesOf left right) relation (given .relation-formed);
       }
 
@@ -61,8 +66,8 @@ module _ (left right relation : List ℕ) (given : WellFormedInputs left right r
   pub given-sizes : FitsHeader z
   unfolding sizesOf
   given-sizes =
-      let a = table-ok left (formed-good left (given .left-formed)) in
-      let b = table-ok right (formed-good right (given .right-formed)) in
+      let a = table-ok left (read .left-good) in
+      let b = table-ok right (read .right-good) in
       let n1 = a .states-le in
       let n2 = b .states-le in
       let m1 = a .steps-le in
@@ -71,7 +76,7 @@ module _ (left right relation : List ℕ) (given : WellFormedInputs left right r
 
   pub given-few : (givenView .own .states ≤ 64) × (givenView .other .states ≤ 64)
   unfolding viewOf systemOf
-  given-few = (table-ok left (formed-good left (given .left-formed)) .states-le, table-ok right (formed-good right (given .right-formed)) .states-le)
+  given-few = (table-ok left (read .left-good) .states-le, table-ok right (read .right-good) .states-le)
 
   -- ---- a file that has the rows gives the given view
 
@@ -97,8 +102,7 @@ module _ (left right relation : List ℕ) (given : WellFormedInputs left right r
     pub file-formed : AllWellFormed left right file
     file-formed =
         record {
-          left-formed = given .left-formed;
-          right-formed = given .right-formed;
+          tables = given .tables;
           certificate-formed =
               certificate-good-none 2 z file
               (file-good z relation r given-length given-sizes
@@ -131,13 +135,20 @@ module _ (left right relation : List ℕ) (given : WellFormedInputs left right r
         (sym (file-rows z relation r given-length))
         (accepts-agree givenView given-formed r (ranksOf z file) inside inside′ h))
 
-  -- some file with the relation's rows is accepted exactly where the relation is a well-founded bisimulation with starts related
-  pub relations-exact : ((c : List ℕ) × AreBytes c × HasRows left right relation c × (judgeAnswer left right c .code ≡ 0))
-      ↔ (InitialStatesRelated givenView × SomeRank givenView)
+  -- some file with the relation's rows is accepted exactly where some byte ranks are
+  some-accepted : SomeAccepted left right relation (judgeAnswer left right) ↔ ((r : Ranks) × Bytes r × T (accepts givenView r))
+  some-accepted = (
+    λ p. (ranksOf z (p .0), ranks-bytes z (p .0) (p .1), accepted-file (p .0) (p .1) (p .2) (p .3)),
+    λ q. (certificateFile z relation (q .0), file-are-bytes (q .0) (q .1), file-has-rows (q .0) (q .1), file-accepted (q .0) (q .1) (q .2)),
+  )
+
+  pub relations-exact : RelationsExact left right relation (judgeAnswer left right)
   relations-exact =
-      let b = accepted-iff-bisimulation givenView given-formed (view-plain left right relation) (given-few .0) (given-few .1) in (
-        λ p. b .0 (ranksOf z (p .0), ranks-bytes z (p .0) (p .1), accepted-file (p .0) (p .1) (p .2) (p .3)),
-        λ p.
-            let q = b .1 p in
-            (certificateFile z relation (q .0), file-are-bytes (q .0) (q .1), file-has-rows (q .0) (q .1), file-accepted (q .0) (q .1) (q .2)),
-      )
+      let few = given-few in
+      let l = accepted-iff-literal givenView given-formed (few .0) (few .1) in
+      record {
+        ranks-exact = (λ p. l .0 (some-accepted .0 p), λ q. some-accepted .1 (l .1 q));
+        plain = λ p.
+            let b = accepted-iff-bisimulation givenView given-formed (view-plain left right relation (p .0) (p .1)) (few .0) (few .1) in
+            (λ x. b .0 (some-accepted .0 x), λ x. some-accepted .1 (b .1 x));
+      }

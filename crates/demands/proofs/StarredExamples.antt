@@ -1,7 +1,10 @@
 -- The starred bench examples of documents 01 and 02: the definitions, computed on the bytes. Assumes nothing.
+use Prim.Native.Nat.{ℕ, zero, suc, _<_}
 use mathlib.Core.Path.{_≡_, refl, ap}
+use mathlib.Core.Logic.{inr}
 use mathlib.Core.List.{[], _∷_, _++_, flatMap}
 use native.Mathlib.Decide.{decLt}
+use native.Mathlib.Nat.{not-suc-le-zero, le-of-suc-le-suc}
 use native.Mathlib.Omega.{arith}
 use lib.Dec.{ltb, ltb→lt}
 use lib.ListN.{length, take}
@@ -21,9 +24,11 @@ use Rattle.bisimulation.specs.Maker.{matchesWithin, matched, distance, mayChain
 use Rattle.tables.specs.Table.{
   layoutOf,
   formatOf,
+  keyed,
   magicFits,
   versionOf,
   formatIn,
+  lastVersion,
   statesOf,
   startOf,
   startsOf,
@@ -37,9 +42,13 @@ use Rattle.tables.specs.Table.{
   labelOf,
   fromOf,
   toOf,
+  keyOf,
 }
-use Rattle.table_reader.specs.TableReading.{versionFits, statesFit, wrongStarts, endsOutside, sameStep, doubled, greater, notGreater}
-use Rattle.table_reader.specs.TableReading.{readLength, readSizes, readHeader, readSteps, readTable}
+use Rattle.table_reader.specs.TableReading.{magicKnown, versionFits, statesFit, wrongStarts, endsOutside, sameStep, doubled, greater, notGreater}
+use Rattle.table_reader.specs.TableReading.{readLength, readSizes, readHeader, readSteps, readTable, readPlainTable}
+use Rattle.table_reader.specs.TableReading.{headOf}
+use Rattle.table_reader.proofs.TableCauseLaws.{good-formed}
+use Rattle.table_pairs.specs.TablePairs.{sameKind, tablesVerdict, plainTablesVerdict}
 use Rattle.tables.specs.Model.{systemOf}
 use Rattle.certificates.specs.Layout.{sizesOf, certificateLength, alAt, arAt, clAt, crAt, rowsPart, rowOf}
 use Rattle.certificate_reader.specs.CertificateReading.{certificateSizesFit, wideRow, readRows, readCertificate, readRelation}
@@ -57,7 +66,7 @@ use Rattle.inputs.specs.Inputs.{readVerdict}
 use Rattle.ranking.specs.Make.{fileFor, examinedVerdict, verdictWith, makeAnswer, makeOutput}
 use Rattle.ranking.specs.Enquire.{sameSlip, slipVerdict, enquiryFor, commitAnswer, commitOutput}
 use Rattle.checker.specs.Judge.{pairsIn, judged, judgedBytes, judgeVerdict, judgeAnswer}
-use Rattle.demands.specs.Demand2.{WellFormedInputs}
+use Rattle.demands.specs.Demand2.{BothPlain, WellFormedInputs}
 use Rattle.lister.specs.Listing.{checkLines, listing, listingOf}
 use Rattle.path_matcher.specs.Following.{
   hasStep,
@@ -70,7 +79,8 @@ use Rattle.path_matcher.specs.Following.{
   followStates,
   followBlocks,
 }
-use Rattle.demands.specs.Examples.{line, six, slip, run, P, Q, startingAt, rowsPQ, K, certificate, low, zeros, still, looping, stillCertificate}
+use Rattle.demands.specs.Ask9.{AllSilent}
+use Rattle.demands.specs.Examples.{line, six, slip, run, P, Q, wideP, keyedP, keyedQ, startingAt, rowsPQ, K, certificate, low, zeros, still, looping, stillCertificate}
 use Rattle.demands.proofs.MakerAnswers.{made-given}
 use Rattle.demands.proofs.MakerExact.{maker-exact}
 
@@ -85,8 +95,8 @@ pub starred : (judgeAnswer P Q K ≡ six 0 0 3 4 1 1)
     × (makeAnswer still looping (low 1) (zeros 24) ≡ six 23 2 1 0 0 0)
 unfolding
     anyBelow allBelow firstBelow sumBelow countBelow bigEndian hasBit addBit hasFrom countBits firstBit is2a is2b is2c ahead
-    layoutOf formatOf magicFits versionOf formatIn versionFits statesOf statesFit startWord startOf stepsOf initialOf tableLength stepsAt
-    labelsPart stepsPart labelOf fromOf toOf endsOutside sameStep doubled readLength readSizes readHeader readSteps readTable
+    layoutOf formatOf keyed magicFits magicKnown versionOf formatIn lastVersion versionFits statesOf statesFit startWord startOf stepsOf initialOf tableLength stepsAt
+    labelsPart stepsPart labelOf fromOf toOf keyOf endsOutside sameStep doubled readLength readSizes readHeader readSteps readTable sameKind tablesVerdict
     systemOf sizesOf certificateLength alAt arAt clAt crAt rowsPart rowOf certificateSizesFit wideRow
     readRows readCertificate certificates.readHeader relatedIn viewOf ranksOf smallestEntered outcomeAfter2a isApart obligationAt
     joinBelow stepsFrom pairChecks checksBy checks along startsNamed startsVerdict checkVerdict pairsIn judged judgedBytes judgeVerdict judgeAnswer
@@ -108,8 +118,8 @@ pub two-starts : (judgeAnswer P (startingAt 3) K ≡ six 0 0 3 4 1 1)
     × (judgeAnswer P (take 15 (startingAt 3)) K ≡ six 1 1 0 0 0 0)
 unfolding
     anyBelow allBelow firstBelow sumBelow countBelow bigEndian hasBit addBit hasFrom countBits firstBit is2a is2b is2c ahead
-    layoutOf formatOf magicFits versionOf formatIn versionFits statesOf statesFit startWord startOf startsOf stepsOf initialOf tableLength stepsAt wrongStarts
-    labelsPart stepsPart labelOf fromOf toOf endsOutside sameStep doubled greater notGreater readLength readSizes readHeader readSteps readTable
+    layoutOf formatOf keyed magicFits magicKnown versionOf formatIn lastVersion versionFits statesOf statesFit startWord startOf startsOf stepsOf initialOf tableLength stepsAt wrongStarts
+    labelsPart stepsPart labelOf fromOf toOf keyOf endsOutside sameStep doubled greater notGreater readLength readSizes readHeader readSteps readTable sameKind tablesVerdict
     systemOf sizesOf certificateLength alAt arAt clAt crAt rowsPart rowOf certificateSizesFit wideRow
     readRows readCertificate certificates.readHeader relatedIn viewOf ranksOf smallestEntered outcomeAfter2a isApart obligationAt
     joinBelow stepsFrom pairChecks checksBy checks along startsNamed unpaired unpairedVerdict startsVerdict checkVerdict
@@ -118,12 +128,36 @@ unfolding
     readVerdict examinedVerdict verdictWith makeAnswer makeOutput fileFor certificateHeader certificateFile bigBytes tabulate grid putAt putFront
 two-starts = (refl, refl, refl, refl, refl, refl, refl, refl, refl)
 
+-- P and Q with keys: where Q's pause is silent and the other steps have P's keys, the maker writes K and the judge accepts it; where Q's second step has another
+-- key, or the pause has one, P's first step has no answer; one table with keys and one without get 30, after the right table is read; and no run is followed.
+pub keyed-PQ : (judgeAnswer (keyedP 7 9) (keyedQ 0 7 9) K ≡ six 0 0 3 4 1 1)
+    × (makeAnswer (keyedP 7 9) (keyedQ 0 7 9) rowsPQ (zeros 51) ≡ six 0 0 51 0 0 0)
+    × (makeOutput (keyedP 7 9) (keyedQ 0 7 9) rowsPQ (zeros 51) ≡ K)
+    × (judgeAnswer (keyedP 7 9) (keyedQ 0 8 9) K ≡ six 18 2 0 0 1 0)
+    × (makeAnswer (keyedP 7 9) (keyedQ 0 8 9) rowsPQ (zeros 51) ≡ six 22 2 0 0 0 0)
+    × (judgeAnswer (keyedP 7 9) (keyedQ 5 7 9) K ≡ six 18 2 0 0 0 0)
+    × (judgeAnswer P (keyedQ 0 7 9) K ≡ six 30 1 0 0 0 0)
+    × (judgeAnswer P (take 15 (keyedQ 0 7 9)) K ≡ six 1 1 0 0 0 0)
+    × (followAnswer (keyedP 7 9) (keyedQ 0 7 9) K 0 0 run (zeros 12) (zeros 6) ≡ six 2 0 0 0 0 0)
+unfolding
+    anyBelow allBelow firstBelow sumBelow countBelow bigEndian hasBit addBit hasFrom countBits firstBit is2a is2b is2c ahead
+    layoutOf formatOf keyed magicFits magicKnown versionOf formatIn lastVersion versionFits statesOf statesFit startWord startOf startsOf stepsOf initialOf tableLength stepsAt wrongStarts
+    labelsPart stepsPart labelOf fromOf toOf keyOf endsOutside sameStep doubled greater notGreater readLength readSizes readHeader readSteps readTable readPlainTable sameKind tablesVerdict plainTablesVerdict
+    systemOf sizesOf certificateLength alAt arAt clAt crAt rowsPart rowOf certificateSizesFit wideRow
+    readRows readCertificate certificates.readHeader relatedIn viewOf ranksOf smallestEntered outcomeAfter2a isApart obligationAt
+    joinBelow stepsFrom pairChecks checksBy checks along startsNamed unpaired unpairedVerdict startsVerdict checkVerdict
+    pairsIn judged judgedBytes judgeVerdict judgeAnswer readRelation roomVerdict examined firstOf makerVerdict verdictBy mayKeep endlessAt firstChain endless
+    matchesWithin matched distance mayChain chainAlong stutterRank matchRank mostBelow
+    readVerdict examinedVerdict verdictWith makeAnswer makeOutput fileFor certificateHeader certificateFile bigBytes tabulate grid putAt putFront
+    matchVerdict followVerdict followAnswer
+keyed-PQ = (refl, refl, refl, refl, refl, refl, refl, refl, refl)
+
 -- document 02's six lines for P, Q and K
 pub listed : listingOf P Q K
     ≡ line 0 0 0 0 3 1 ∷ line 1 0 0 0 2 0 ∷ line 0 0 1 0 1 2 ∷ line 1 0 1 1 1 1 ∷ line 0 1 2 1 1 0 ∷ line 1 1 2 2 1 0 ∷ []
 unfolding
-    anyBelow firstBelow bigEndian hasBit is2a is2b is2c ahead layoutOf formatOf versionOf formatIn statesOf stepsOf tableLength stepsAt
-    labelsPart stepsPart labelOf fromOf toOf systemOf sizesOf alAt arAt clAt crAt rowsPart rowOf relatedIn viewOf ranksOf
+    anyBelow firstBelow bigEndian hasBit is2a is2b is2c ahead layoutOf formatOf keyed versionOf formatIn statesOf stepsOf tableLength stepsAt
+    labelsPart stepsPart labelOf fromOf toOf keyOf systemOf sizesOf alAt arAt clAt crAt rowsPart rowOf relatedIn viewOf ranksOf
     smallestEntered outcomeAfter2a isApart obligationAt joinBelow stepsFrom pairChecks checksBy checks mostBelow flatMap checkLines listing
 listed = refl
 
@@ -141,8 +175,8 @@ pub followed-PQK : (followAnswer P Q K 0 0 run (zeros 12) (zeros 6) ≡ six 0 0 
     × (followStates P Q K 1 0 (0 ∷ 1 ∷ 2 ∷ 0 ∷ []) (zeros 9) (zeros 8) ≡ 0 ∷ 0 ∷ 0 ∷ 1 ∷ 0 ∷ 1 ∷ 0 ∷ 0 ∷ 2 ∷ [])
     × (followBlocks P Q K 1 0 (0 ∷ 1 ∷ 2 ∷ 0 ∷ []) (zeros 9) (zeros 8) ≡ 0 ∷ 0 ∷ 0 ∷ 0 ∷ 0 ∷ 1 ∷ 0 ∷ 2 ∷ [])
 unfolding
-    anyBelow firstBelow bigEndian hasBit hasFrom is2a is2b is2c layoutOf formatOf magicFits versionOf formatIn versionFits statesOf statesFit startWord startOf
-    stepsOf tableLength stepsAt labelsPart stepsPart labelOf fromOf toOf endsOutside sameStep doubled readLength readSizes readHeader readSteps readTable
+    anyBelow firstBelow bigEndian hasBit hasFrom is2a is2b is2c layoutOf formatOf keyed magicFits magicKnown versionOf formatIn lastVersion versionFits statesOf statesFit startWord startOf
+    stepsOf tableLength stepsAt labelsPart stepsPart labelOf fromOf toOf keyOf endsOutside sameStep doubled readLength readSizes readHeader readSteps readTable readPlainTable sameKind tablesVerdict plainTablesVerdict
     systemOf sizesOf certificateLength alAt arAt clAt rowsPart rowOf certificateSizesFit wideRow readRows readCertificate certificates.readHeader relatedIn
     viewOf ranksOf smallestEntered outcomeAfter2a obligationAt joinBelow stepsFrom pairChecks checksBy checks along startsNamed startsVerdict checkVerdict
     judged judgedBytes judgeVerdict mostBelow smallestStep moves matchSteps matchPath stepOf stepsAlong numberedFrom followed givenEntries matchingEntries
@@ -157,8 +191,8 @@ pub made-K : (length K ≡ 51)
     × (makeAnswer P Q rowsPQ (zeros 50) ≡ six 21 3 51 0 0 0)
 unfolding
     anyBelow allBelow firstBelow sumBelow countBelow bigEndian hasBit addBit hasFrom countBits firstBit is2a is2b is2c ahead
-    layoutOf formatOf magicFits versionOf formatIn versionFits statesOf statesFit startWord startOf stepsOf initialOf tableLength stepsAt
-    labelsPart stepsPart labelOf fromOf toOf endsOutside sameStep doubled readLength readSizes readHeader readSteps readTable
+    layoutOf formatOf keyed magicFits magicKnown versionOf formatIn lastVersion versionFits statesOf statesFit startWord startOf stepsOf initialOf tableLength stepsAt
+    labelsPart stepsPart labelOf fromOf toOf keyOf endsOutside sameStep doubled readLength readSizes readHeader readSteps readTable sameKind tablesVerdict
     systemOf sizesOf certificateLength alAt arAt clAt crAt rowsPart rowOf certificateSizesFit wideRow
     readRows readCertificate certificates.readHeader relatedIn viewOf ranksOf smallestEntered outcomeAfter2a isApart obligationAt
     joinBelow stepsFrom pairChecks checksBy checks along startsNamed startsVerdict checkVerdict pairsIn judged judgedBytes judgeVerdict judgeAnswer
@@ -180,8 +214,8 @@ pub enquired-PQ : (enquiryFor P Q rowsPQ ≡ record { answer = six 0 0 51 0 0 0;
     × (commitAnswer still looping (low 1) (slip 0 0 0 0) (zeros 24) ≡ six 29 2 0 0 0 0)
 unfolding
     anyBelow allBelow firstBelow sumBelow countBelow bigEndian hasBit addBit hasFrom countBits firstBit is2a is2b is2c ahead
-    layoutOf formatOf magicFits versionOf formatIn versionFits statesOf statesFit startWord startOf stepsOf initialOf tableLength stepsAt
-    labelsPart stepsPart labelOf fromOf toOf endsOutside sameStep doubled readLength readSizes readHeader readSteps readTable
+    layoutOf formatOf keyed magicFits magicKnown versionOf formatIn lastVersion versionFits statesOf statesFit startWord startOf stepsOf initialOf tableLength stepsAt
+    labelsPart stepsPart labelOf fromOf toOf keyOf endsOutside sameStep doubled readLength readSizes readHeader readSteps readTable sameKind tablesVerdict
     systemOf sizesOf certificateLength alAt arAt clAt crAt rowsPart rowOf certificateSizesFit wideRow
     readRows readCertificate certificates.readHeader relatedIn viewOf ranksOf smallestEntered outcomeAfter2a isApart obligationAt
     joinBelow stepsFrom pairChecks checksBy checks along startsNamed startsVerdict checkVerdict pairsIn judged judgedBytes judgeVerdict judgeAnswer
@@ -206,5 +240,36 @@ success-PQ = ap (λ (a : Answer). a .code) (made-K .1)
 pub given-PQ : WellFormedInputs P Q rowsPQ
 given-PQ = made-given P Q rowsPQ (zeros 51) bytes-PQ success-PQ .0
 
+plain-PQ : BothPlain P Q
+unfolding keyed
+plain-PQ = (refl, refl)
+
 pub property-PQ : PathProperty (viewOf P Q rowsPQ)
-property-PQ = maker-exact P Q rowsPQ (zeros 51) given-PQ (made-given P Q rowsPQ (zeros 51) bytes-PQ success-PQ .1) .succeeds .0 success-PQ
+property-PQ = maker-exact P Q rowsPQ (zeros 51) given-PQ (made-given P Q rowsPQ (zeros 51) bytes-PQ success-PQ .1) .plain-succeeds plain-PQ .0 success-PQ
+
+-- and neither is one of the law of silent keys: P in version 4, and P with two silent keys
+pub silent-P : AllSilent wideP (keyedP 0 0)
+unfolding
+    anyBelow firstBelow bigEndian hasBit hasFrom layoutOf formatOf keyed magicFits magicKnown versionOf formatIn lastVersion versionFits statesOf statesFit
+    startWord startsOf stepsOf initialOf tableLength stepsAt wrongStarts labelsPart stepsPart labelOf fromOf toOf keyOf endsOutside greater notGreater
+    readLength readSizes readHeader readSteps readTable systemOf
+silent-P =
+    record {
+      formed = good-formed wideP {h = headOf wideP} refl;
+      plain = refl;
+      version = inr refl;
+      keyed-formed = good-formed (keyedP 0 0) {h = headOf (keyedP 0 0)} refl;
+      has-keys = refl;
+      states = refl;
+      marks = below-two _ refl refl;
+      starts = below-two _ refl refl;
+      steps = refl;
+      from-same = below-two _ refl refl;
+      to-same = below-two _ refl refl;
+      keys = below-two _ refl refl;
+    }
+  where
+    below-two : (P : ℕ → Type 0) → P 0 → P 1 → (i : ℕ) → i < 2 → P i
+    below-two P a b zero l = a
+    below-two P a b (suc zero) l = b
+    below-two P a b (suc (suc i)) l = absurd (not-suc-le-zero (le-of-suc-le-suc (le-of-suc-le-suc l)))

@@ -16,11 +16,8 @@ use Rattle.lists.proofs.NumberLaws.{big-cong}
 use Rattle.bisimulation.specs.Systems.{View, Ranks, flip, swap}
 use Rattle.bisimulation.specs.Judge.{is2b, is2c, meets2c}
 use Rattle.tables.specs.Table.{statesOf, magicFits}
-use Rattle.table_reader.specs.TableReading.{readTable}
-use Rattle.answers.specs.Verdicts.{Verdict, _andThen_, answerOf}
+use Rattle.answers.specs.Verdicts.{Verdict, goOn, refusedWith, _andThen_, answerOf}
 use Rattle.answers.proofs.VerdictLaws.{then-cong, along-cong}
-use Rattle.table_reader.specs.declared.TableRead.{TableRead}
-use Rattle.table_reader.specs.declared.TableRead.the-variants as table
 use Rattle.certificates.specs.Layout.{sizesOf, certificateLength, certificateHeaderLength, alAt, rowsPart}
 use Rattle.certificate_reader.specs.CertificateReading.{certificateSizesFit, readHeader, readRows, withRows, readCertificate}
 use Rattle.certificates.specs.CertificateModel.{viewOf, ranksOf, certifiedView as view, certifiedRanks as ranks}
@@ -34,7 +31,8 @@ use Rattle.certificate_reader.proofs.CertificateLaws.{certificate-ok}
 use Rattle.sweeps.specs.Tallies.{none, tallied, acceptance}
 use Rattle.checker.specs.Judge.{pairsIn, judged, judgedBytes, judgeVerdict, answerAfter, judgeAnswer}
 use Rattle.sweeps.specs.declared.Tally.{Tally}
-use Rattle.table_reader.specs.TableVerdicts.{tableVerdict}
+use Rattle.table_pairs.specs.declared.Heads.{Heads}
+use Rattle.table_pairs.specs.TablePairs.{tablesVerdict}
 use Rattle.certificate_reader.specs.CertificateVerdicts.{certificateVerdict}
 use Rattle.demands.specs.Demand2.{SameWhereRelated}
 use Rattle.outcomes.specs.Obligation.{obligationAt}
@@ -177,25 +175,20 @@ module _ (left right c c′ : List ℕ) (d : SameWhereRelated left right c c′)
       judged-same-ranks (view left right c) (ranks left right c) (ranks left right c′) ranks-same ranks-same′ (startsNamed left right)
       ∙ ap (λ (rows : List ℕ). judged (viewOf left right rows) (ranks left right c′) (startsNamed left right)) (rows-same e)
 
-  -- the verdict on a certificate where the tables' reads are these
-  abbrev verdictOn : List ℕ → TableRead → TableRead → Verdict Tally
-  verdictOn x left-read right-read =
-      tableVerdict 0 left-read andThen λ h.
-      tableVerdict 1 right-read andThen λ k.
-      certificateVerdict 2 (readCertificate z x) andThen λ y.
-      judgedBytes left right x
+  -- the verdict on a certificate where the verdict on the tables is this
+  abbrev verdictOn : List ℕ → Verdict Heads → Verdict Tally
+  verdictOn x tables = tables andThen λ h. certificateVerdict 2 (readCertificate z x) andThen λ y. judgedBytes left right x
 
   -- two certificates that differ only in ranks of unrelated pairs get the same six numbers
   pub unrelated-ranks : judgeAnswer left right c ≡ judgeAnswer left right c′
   unfolding judgeAnswer judgeVerdict
-  unrelated-ranks = go (readTable left) (readTable right) (readCertificate z c) refl
+  unrelated-ranks = go (tablesVerdict left right) (readCertificate z c) refl
     where
-      go : (x y : TableRead) (k : CertificateRead) → readCertificate z c ≡ k
-          → answerAfter left right c (verdictOn c x y) ≡ answerAfter left right c′ (verdictOn c′ x y)
-      go (table.Refused r) y k e = refl
-      go (table.Good h) (table.Refused r) k e = refl
-      go (table.Good h) (table.Good i) (certificate.Refused r) e = rw (← read-same, e)
-      go (table.Good h) (table.Good i) (certificate.Good s) e =
+      go : (x : Verdict Heads) (k : CertificateRead) → readCertificate z c ≡ k
+          → answerAfter left right c (verdictOn c x) ≡ answerAfter left right c′ (verdictOn c′ x)
+      go (refusedWith a) k e = refl
+      go (goOn h) (certificate.Refused r) e = rw (← read-same, e)
+      go (goOn h) (certificate.Good s) e =
           let l = certificate-ok z c e .1 .long in
           rw (← read-same, e, judged-same l)
           (ap (λ (rows : List ℕ). answerOf (acceptance (pairsIn rows (statesOf left))) (judgedBytes left right c′))

@@ -1,4 +1,4 @@
--- Demand 3 on bytes, undivided: for any two tables and any relation that are well formed, and an output that is long enough, whatever it holds.
+-- Demand 3 on bytes, undivided: for any two tables of one kind and any relation that are well formed, and an output that is long enough, whatever it holds.
 use Prim.Native.Nat.{ℕ}
 use mathlib.Core.Path.{_≡_}
 use mathlib.Core.Logic.{_↔_}
@@ -6,6 +6,7 @@ use mathlib.Core.List.{List}
 use lib.ListN.{length, take, drop}
 use Rattle.bisimulation.specs.Systems.{flip}
 use Rattle.bisimulation.specs.PathProperty.{PathProperty}
+use Rattle.bisimulation.specs.StepPaths.{StepPathProperty}
 use Rattle.answers.specs.declared.Answer.{Answer}
 use Rattle.certificates.specs.Layout.{sizesOf, certificateLength, rowsPart}
 use Rattle.certificates.specs.CertificateModel.{AreBytes, viewOf, ranksOf}
@@ -13,7 +14,7 @@ use Rattle.files.specs.File.{certificateHeader}
 use Rattle.checker.specs.Judge.{judgeAnswer}
 use Rattle.demands.specs.Demand1.{Made}
 use Rattle.demands.specs.Ranks.{MatchRanks, StutterRanks}
-use Rattle.demands.specs.Demand2.{HasRows}
+use Rattle.demands.specs.Demand2.{HasRows, BothPlain}
 
 -- The file that document 01 defines for the relation: header and rows as given, each C rank of a matched obligation its least number of steps, each A rank
 -- of a related pair the most steps of a chain, all other ranks 0, and nothing more.
@@ -28,8 +29,10 @@ pub record DefinedFile (left right relation file : List ℕ) : Type 0 where
 
 -- What the maker's answer and output are.
 pub record MakerExact (left right relation output : List ℕ) (answer : Answer) (after : List ℕ) : Type 0 where
-  -- The maker succeeds exactly when the relation has the path property.
-  pub succeeds : (answer .code ≡ 0) ↔ PathProperty (viewOf left right relation)
+  -- The maker succeeds exactly when the relation has the path property: as document 02 has it, where a path names its steps, and for tables without keys
+  -- in the user's words, over states.
+  pub succeeds : (answer .code ≡ 0) ↔ StepPathProperty (viewOf left right relation)
+  pub plain-succeeds : BothPlain left right → (answer .code ≡ 0) ↔ PathProperty (viewOf left right relation)
   -- It succeeds with 0, 0, L.
   pub success : answer .code ≡ 0 → Made left right answer
   -- The certificate so written, the first L bytes of the output, is the file that document 01 defines, and the bytes after L stay.
@@ -41,4 +44,7 @@ pub record MakerExact (left right relation output : List ℕ) (answer : Answer) 
   pub untouched : ¬ (answer .code ≡ 0) → after ≡ output
   -- A relation without the path property has no accepted certificate at all: whatever file has its rows, if the judge accepts it,
   -- the relation has the property.
-  pub no-other : (c : List ℕ) → AreBytes c → HasRows left right relation c → judgeAnswer left right c .code ≡ 0 → PathProperty (viewOf left right relation)
+  pub no-other : (c : List ℕ) → AreBytes c → HasRows left right relation c → judgeAnswer left right c .code ≡ 0
+      → StepPathProperty (viewOf left right relation)
+  pub plain-no-other : BothPlain left right → (c : List ℕ) → AreBytes c → HasRows left right relation c → judgeAnswer left right c .code ≡ 0
+      → PathProperty (viewOf left right relation)

@@ -31,6 +31,26 @@ startingAt starts =
     (0x54 ∷ 0x50 ∷ 0x54 ∷ 0 ∷ 3 ∷ 3 ∷ 0 ∷ 0 ∷ 0 ∷ 0 ∷ 0 ∷ 0 ∷ 0 ∷ starts ∷ 0 ∷ 3 ∷ [])
     ++ (0 ∷ 0 ∷ 0 ∷ 0 ∷ 0 ∷ 1 ∷ 0 ∷ 1 ∷ 1 ∷ 2 ∷ 2 ∷ 0 ∷ [])
 
+-- The header of a version 4 table, and of one with keys, that starts at 0.
+abbrev pub wordHead : (third version states steps : ℕ) → List ℕ
+wordHead third version states steps =
+    0x54 ∷ 0x50 ∷ third ∷ 0 ∷ version ∷ states ∷ 0 ∷ 0 ∷ 0 ∷ 0 ∷ 0 ∷ 0 ∷ 0 ∷ 1 ∷ 0 ∷ steps ∷ []
+
+-- A mark of four bytes.
+abbrev pub wide : ℕ → List ℕ
+wide b = 0 ∷ 0 ∷ 0 ∷ b ∷ []
+
+-- P in version 4, and with keys on its two steps; Q with keys on its three.
+abbrev pub wideP : List ℕ
+wideP = wordHead 0x54 4 2 2 ++ wide 0 ++ wide 1 ++ (0 ∷ 1 ∷ 1 ∷ 0 ∷ [])
+
+abbrev pub keyedP : ℕ → ℕ → List ℕ
+keyedP first second = wordHead 0x4B 1 2 2 ++ wide 0 ++ wide 1 ++ (0 ∷ 1 ∷ first ∷ 1 ∷ 0 ∷ second ∷ [])
+
+abbrev pub keyedQ : ℕ → ℕ → ℕ → List ℕ
+keyedQ first second third =
+    wordHead 0x4B 1 3 3 ++ wide 0 ++ wide 0 ++ wide 1 ++ (0 ∷ 1 ∷ first ∷ 1 ∷ 2 ∷ second ∷ 2 ∷ 0 ∷ third ∷ [])
+
 -- A row of 64 bits whose low byte is b.
 abbrev pub low : ℕ → List ℕ
 low b = 0 ∷ 0 ∷ 0 ∷ 0 ∷ 0 ∷ 0 ∷ 0 ∷ b ∷ []

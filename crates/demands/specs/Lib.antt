@@ -6,5 +6,6 @@ pub mod Ask2
 pub mod Ask3
 pub mod Ask7
 pub mod Ask8
+pub mod Ask9
 pub mod OneStart
 pub mod Examples

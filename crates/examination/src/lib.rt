@@ -6,6 +6,7 @@ use lists::byte;
 use obligations::Place;
 use sides::Side;
 use sides::first;
+use sides::key;
 use sides::label;
 use sides::next;
 use sides::related;
@@ -31,8 +32,11 @@ fn is_kept(ours: &Side, theirs: &Side, distances: &[u8], j: usize, t: usize) -> 
     if byte(distances, j * Head::MAX_STATES + t) < states(theirs) {
         return true;
     }
-    let to_states = related(ours, to(ours, j));
-    to_states.has(t)
+    if key(ours, j) == 0 {
+        let to_states = related(ours, to(ours, j));
+        return to_states.has(t);
+    }
+    false
 }
 
 // Our steps from the place's own state, in the order of their links.

@@ -9,10 +9,11 @@ use Rattle.answers.specs.Causes.{FirstCause, NoCause, Numbered, allows}
 use Rattle.answers.specs.declared.Answer.{Answer}
 use Rattle.answers.proofs.CauseLaws.{numbered-append, numbered-first}
 use Rattle.answers.proofs.VerdictLaws.{Decided, Anything, decided-then, decided-go, none-on}
-use Rattle.table_reader.specs.TableReading.{readTable}
-use Rattle.table_reader.specs.TableVerdicts.{tableVerdict}
-use Rattle.table_reader.specs.TableCauses.{tableCauses, tableNumber}
-use Rattle.table_reader.proofs.TableCauseLaws.{table-decided, tableNumbers, table-numbers}
+use Rattle.table_reader.specs.TableCauses.{tableNumber}
+use Rattle.table_reader.proofs.TableCauseLaws.{tableNumbers}
+use Rattle.table_pairs.specs.TablePairs.{tablesVerdict}
+use Rattle.table_pairs.specs.PairCauses.{tablesCauses, tablesNumber}
+use Rattle.table_pairs.proofs.PairCauseLaws.{tables-decided, tables-numbers}
 use Rattle.certificates.specs.Layout.{sizesOf}
 use Rattle.certificate_reader.specs.CertificateReading.{readRelation}
 use Rattle.certificate_reader.specs.CertificateVerdicts.{relationVerdict}
@@ -26,27 +27,31 @@ module _ (left right relation : List ℕ) where
   pub inputs-decided : Decided Anything (inputCauses left right relation) (readVerdict left right relation)
   unfolding readVerdict
   inputs-decided =
-      decided-then (tableVerdict 0 (readTable left)) (table-decided 0 left) λ h e n.
-      decided-then (tableVerdict 1 (readTable right)) (table-decided 1 right) λ k f m.
+      decided-then (tablesVerdict left right) (tables-decided left right) λ h e n.
       decided-go (relationVerdict 2 (readRelation (sizesOf left right) relation)) _ (relation-decided 2 (sizesOf left right) relation)
 
   pub none-read : NoCause (inputCauses left right relation) → InputsRead left right relation
   none-read n = inputs-read left right relation (none-on (readVerdict left right relation) inputs-decided n .1) .2
 
-  -- the numbers: 1 to 9, 24 and 28 with the file 0 or 1; 20 and 15 with the file 2
-  pub input-numbers : (f : ℕ → ℕ → Bool) → T (allows f 0 tableNumbers) → T (allows f 1 tableNumbers) → T (allows f 2 (20 ∷ 15 ∷ []))
+  -- the numbers: 1 to 9, 24 and 28 with the file 0 or 1, 30 with the file 1; 20 and 15 with the file 2
+  pub input-numbers : (f : ℕ → ℕ → Bool) → T (allows f 0 tableNumbers) → T (allows f 1 tableNumbers) → T (f 30 1) → T (allows f 2 (20 ∷ 15 ∷ []))
       → Numbered f (inputCauses left right relation)
-  input-numbers f h k r =
-      numbered-append f (tableCauses 0 left) _ (table-numbers f 0 h left)
-      (numbered-append f (tableCauses 1 right) (relationCauses 2 (sizesOf left right) relation) (table-numbers f 1 k right)
-      (relation-numbers f 2 r (sizesOf left right) relation))
+  input-numbers f h k t r =
+      numbered-append f (tablesCauses left right) (relationCauses 2 (sizesOf left right) relation) (tables-numbers left right f h k t)
+      (relation-numbers f 2 r (sizesOf left right) relation)
 
   pub input-first : (a : Answer) → FirstCause (inputCauses left right relation) a → T (inputCode (a .code))
   input-first a first =
-      ⊎-elim (λ t. or-l (tableNumber k) (eqb k 15 || eqb k 20) (and-l (tableNumber k) (leb (a .file) 1) t))
-      (λ r. or-r (tableNumber k) (eqb k 15 || eqb k 20) (and-l (eqb k 15 || eqb k 20) (eqb (a .file) 2) r))
-      (or-e (tableNumber k && leb (a .file) 1) ((eqb k 15 || eqb k 20) && eqb (a .file) 2)
-      (numbered-first inputNumber (inputCauses left right relation) a (input-numbers inputNumber tt tt tt) first))
+      ⊎-elim of-tables
+      (λ r. or-r (tableNumber k) _ (or-r (eqb k 30) (eqb k 15 || eqb k 20) (and-l (eqb k 15 || eqb k 20) (eqb (a .file) 2) r)))
+      (or-e (tablesNumber k (a .file)) ((eqb k 15 || eqb k 20) && eqb (a .file) 2)
+      (numbered-first inputNumber (inputCauses left right relation) a (input-numbers inputNumber tt tt tt tt) first))
     where
       k : ℕ
       k = a .code
+
+      of-tables : T (tablesNumber k (a .file)) → T (inputCode k)
+      of-tables h =
+          ⊎-elim (λ t. or-l (tableNumber k) _ (and-l (tableNumber k) (leb (a .file) 1) t))
+          (λ t. or-r (tableNumber k) _ (or-l (eqb k 30) (eqb k 15 || eqb k 20) (and-l (eqb k 30) (eqb (a .file) 1) t)))
+          (or-e (tableNumber k && leb (a .file) 1) (eqb k 30 && eqb (a .file) 1) h)

@@ -2,7 +2,7 @@
 -- The key idea: a step that is not open gives no state a length, so the greatest length over the kept steps is that over all steps. Assumes nothing.
 use Prim.Native.Nat.{ℕ, zero, suc, _+_, _*_, _-_, max, _≤_, _<_, zero-le}
 use mathlib.Core.Path.{_≡_, refl, sym, ap, ap₂, _∙_}
-use mathlib.Core.Bool.{Bool, true, false, cond, _&&_}
+use mathlib.Core.Bool.{Bool, true, false, cond, _&&_, and-true, and-false}
 use mathlib.Core.List.{List}
 use native.Mathlib.Nat.{not-suc-le-zero}
 use native.Mathlib.Numerals.{sub-one}
@@ -12,7 +12,7 @@ use lib.Dec.{T, eqb, eqb→eq, leb, ltb, ltb→lt, lt→ltb}
 use lib.ListN.{length, getD, set, replicate, length-set, length-replicate}
 use lib.Seq.{getD-set-same, getD-set-other}
 use borrow.Author.Count.{below-more}
-use borrow.Author.Tests.{eq-eqb, ne-eqb, lt-ltb, le-ltb}
+use borrow.Author.Tests.{eq-eqb, ne-eqb, lt-ltb, le-ltb, le-leb, lt-leb}
 use Rattle.lists.specs.Below.{mostBelow}
 use Rattle.lists.specs.Lists.{tabulate}
 use Rattle.lists.specs.Numbers.{byteAt}
@@ -21,7 +21,7 @@ use Rattle.lists.proofs.BelowLaws.{most-cong, most-more}
 use Rattle.lists.proofs.FillLaws.{tabulate-cong, tabulate-set, length-tabulate, getD-tabulate, getD-past}
 use Rattle.words.specs.Bits.{hasBit}
 use Rattle.words.proofs.BitLaws.{has-empty}
-use Rattle.bisimulation.specs.Systems.{System}
+use Rattle.bisimulation.specs.Systems.{System, stays}
 use Rattle.bisimulation.specs.Maker.{chainAlong}
 use Rattle.bisimulation.proofs.RunLaws.{along-bound}
 use Rattle.sides.specs.Side.{relatedPart, relatedTo, systemIn}
@@ -229,12 +229,27 @@ module _ (ours theirs distances : List ℕ) (t j : ℕ) where
     -- it enters a state that is not related to t
     pub open-apart : b ≡ false → false ≡ isOpen (systemIn ours) test j
     unfolding isOpen openBy
-    open-apart e = simp (lt-ltb (systemIn ours .from j) 64 h, sym b-is ∙ e)
+    open-apart e = simp (lt-ltb (systemIn ours .from j) 64 h, sym b-is ∙ e, and-false (systemIn ours .silent j))
 
-    -- it enters one that is, and the table decides
-    pub open-by : {n x : ℕ} → n ≡ systemIn theirs .states → x ≡ byteAt distances (j * 64 + t) → b ≡ true → leb n x ≡ isOpen (systemIn ours) test j
+    -- it enters one that is, and by the table it is matched
+    pub open-matched : {n x : ℕ} → n ≡ systemIn theirs .states → x ≡ byteAt distances (j * 64 + t) → x < n → false ≡ isOpen (systemIn ours) test j
     unfolding isOpen openBy
-    open-by en ex e = ap₂ leb en ex ∙ sym (simp (lt-ltb (systemIn ours .from j) 64 h, sym b-is ∙ e))
+    open-matched en ex l =
+        let k : byteAt distances (j * 64 + t) < systemIn theirs .states = rw (en, ex) at l in
+        simp (lt-ltb (systemIn ours .from j) 64 h, lt-leb (systemIn theirs .states) (byteAt distances (j * 64 + t)) k, and-false (stays (viewIn ours theirs) j t))
+
+    -- it is unmatched, and open where it is silent
+    pub open-by : {n x : ℕ} → n ≡ systemIn theirs .states → x ≡ byteAt distances (j * 64 + t) → b ≡ true → n ≤ x
+        → systemIn ours .silent j ≡ isOpen (systemIn ours) test j
+    unfolding isOpen openBy
+    open-by en ex e l =
+        let k : systemIn theirs .states ≤ byteAt distances (j * 64 + t) = rw (en, ex) at l in
+        sym (simp (
+          lt-ltb (systemIn ours .from j) 64 h,
+          sym b-is ∙ e,
+          le-leb (systemIn theirs .states) (byteAt distances (j * 64 + t)) k,
+          and-true (systemIn ours .silent j),
+        ))
 
   -- an open step leaves and enters states below 64
   pub open-below : {b : Bool} → b ≡ isOpen (systemIn ours) test j → b ≡ true → (systemIn ours .from j < 64) × (systemIn ours .to j < 64)

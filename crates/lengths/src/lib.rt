@@ -3,6 +3,7 @@
 use lists::byte;
 use sides::Side;
 use sides::from;
+use sides::key;
 use sides::related;
 use sides::states;
 use sides::step_count;
@@ -10,7 +11,7 @@ use sides::to;
 use tables::Head;
 use words::Row;
 ghost use mathlib.Core.Path.{_≡_};
-ghost use mathlib.Core.Bool.{true};
+ghost use mathlib.Core.Bool.{true, false};
 ghost use Prim.Native.Nat.{ℕ, _^_, _≤_, _<_};
 ghost use lib.ListN.{length, getD};
 ghost use Rattle.lists.specs.Lists.{tabulate, grid};
@@ -20,7 +21,7 @@ ghost use Rattle.sides.specs.Views.{viewIn};
 ghost use Rattle.lengths.specs.Cells.{distanceAt, distanceTable, chainTable};
 ghost use Rattle.lengths.specs.Chains.{openBy, chainBy};
 ghost use Rattle.lengths.specs.OpenSteps.{keptSystem, every, isOpen, longest, Ends, Open};
-ghost use Rattle.lengths.specs.Relaxing.{shortens, Bounds, Round};
+ghost use Rattle.lengths.specs.Relaxing.{metBy, shortens, Bounds, Settled, Round};
 
 // A length for each state below 64.
 struct Lengths {
@@ -34,7 +35,7 @@ struct Kept {
     count: usize,
 }
 
-// A row after a round, and whether the round changed it.
+// A row after a round, and whether the round changed it, or at the start whether a round may.
 struct Relaxed {
     row: Lengths,
     changed: bool,
@@ -56,9 +57,16 @@ fn wide(b: u8) -> usize
 
 // ---- match distances
 
-// Whether a step from x to y shortens the length at x.
-fn is_shorter(row: &[u8; Head::MAX_STATES], states: Row, x: usize, y: usize) -> bool
-    ensures { λ r. ⌜ r ≡ shortens (states .0) (now (row .entry)) x y ⌝ }
+// Whether their step e, from x to y, shortens the length at x: the step is silent.
+fn is_shorter(
+    theirs: &Side,
+    row: &[u8; Head::MAX_STATES],
+    states: Row,
+    e: usize,
+    x: usize,
+    y: usize,
+) -> bool
+    ensures { λ r. ⌜ r ≡ shortens (states .0) (now (row .entry)) x y (systemIn (now (theirs .entry)) .silent e) ⌝ }
 {
     if Head::MAX_STATES <= x {
         return false;
@@ -69,36 +77,59 @@ fn is_shorter(row: &[u8; Head::MAX_STATES], states: Row, x: usize, y: usize) -> 
     if wide(row[x]) <= wide(row[y]) + 1 {
         return false;
     }
-    states.has(x)
+    if states.has(x) {
+        return key(theirs, e) == 0;
+    }
+    false
 }
 
-// The row to relax for our step j: 0 at the states where it is matched by 2a, and their number of states at the others.
-fn start(ours: &Side, theirs: &Side, j: usize) -> Lengths
-    ensures row { λ r. ⌜ Bounds (viewIn (now (ours .entry)) (now (theirs .entry))) j (systemIn (now (theirs .entry)) .steps) (r .at) ⌝ }
+// Whether their step e meets an obligation by 2a, where `leaving` and `entering` are related to the states that our step leaves and enters, and `by` is its
+// key.
+fn is_met(theirs: &Side, leaving: Row, entering: Row, by: usize, e: usize) -> bool
+    ensures { λ r. ⌜ r ≡ metBy (now (theirs .entry)) (leaving .0) (entering .0) by e ⌝ }
+{
+    if leaving.has(from(theirs, e)) {
+        if entering.has(to(theirs, e)) {
+            return key(theirs, e) == by;
+        }
+    }
+    false
+}
+
+// The row to relax for our step j: 0 at the states where it is matched by 2a, and their number of states at the others; and whether a round may change it,
+// which it cannot where the step is matched so at every state that is related to the one that it leaves.
+fn start(ours: &Side, theirs: &Side, j: usize) -> Relaxed
+    ensures row { λ r. ⌜ Bounds (viewIn (now (ours .entry)) (now (theirs .entry))) j (systemIn (now (theirs .entry)) .steps) (r .row .at) ⌝ }
+    ensures settled { λ r. ⌜ (r .changed ≡ false
+        → Settled (viewIn (now (ours .entry)) (now (theirs .entry))) j (systemIn (now (theirs .entry)) .steps) (r .row .at)) ⌝ }
     ensures small { λ r. ⌜ relatedTo (now (ours .entry)) (systemIn (now (ours .entry)) .from j) < 2 ^ 64 ⌝ }
 {
     let from_states = related(ours, from(ours, j));
     let to_states = related(ours, to(ours, j));
+    let by = key(ours, j);
     let n = states(theirs) as u8;
     let m = step_count(theirs);
     let mut row = Lengths {
         at: [n; Head::MAX_STATES],
     };
+    let mut matched = Row::empty();
     let mut e: usize = 0;
     while e < m {
-        let x = from(theirs, e);
-        let y = to(theirs, e);
-        if from_states.has(x) {
-            if to_states.has(y) {
-                row.at[x] = 0;
-            }
+        if is_met(theirs, from_states, to_states, by, e) {
+            let x = from(theirs, e);
+            row.at[x] = 0;
+            matched = matched.add(x);
         }
         e += 1;
     }
-    row
+    let rest = from_states.without(matched);
+    Relaxed {
+        row,
+        changed: !rest.is_empty(),
+    }
 }
 
-// One round over their steps: each shortens the length at the state it leaves, where it can.
+// One round over their steps: each silent one shortens the length at the state it leaves, where it can.
 fn relax(ours: &Side, theirs: &Side, j: usize, before: Lengths) -> Relaxed
     requires { ⌜ Bounds (viewIn (now ours) (now theirs)) j (systemIn (now theirs) .steps) (before .at) ⌝ }
     ensures { λ r. ⌜ Round (viewIn (now (ours .entry)) (now (theirs .entry))) j (systemIn (now (theirs .entry)) .steps)
@@ -112,7 +143,7 @@ fn relax(ours: &Side, theirs: &Side, j: usize, before: Lengths) -> Relaxed
     while e < m {
         let x = from(theirs, e);
         let y = to(theirs, e);
-        if is_shorter(&row.at, from_states, x, y) {
+        if is_shorter(theirs, &row.at, from_states, e, x, y) {
             row.at[x] = row.at[y] + 1;
             changed = true;
         }
@@ -125,8 +156,9 @@ fn relax(ours: &Side, theirs: &Side, j: usize, before: Lengths) -> Relaxed
 fn step_distances(ours: &Side, theirs: &Side, j: usize) -> Lengths
     ensures { λ r. ⌜ r .at ≡ tabulate 64 (distance (viewIn (now (ours .entry)) (now (theirs .entry))) j) ⌝ }
 {
-    let mut row = start(ours, theirs, j);
-    let mut again = true;
+    let first = start(ours, theirs, j);
+    let mut row = first.row;
+    let mut again = first.changed;
     while again {
         let next = relax(ours, theirs, j, row);
         row = next.row;
@@ -180,7 +212,9 @@ fn is_open(ours: &Side, theirs: &Side, distances: &[u8], t: usize, j: usize) -> 
     }
     let to_states = related(ours, enters);
     if to_states.has(t) {
-        return n <= byte(distances, j * Head::MAX_STATES + t);
+        if n <= byte(distances, j * Head::MAX_STATES + t) {
+            return key(ours, j) == 0;
+        }
     }
     false
 }

@@ -2,7 +2,7 @@
 -- there can be from a state, and where the runs of ranks lie. Assumes nothing.
 use Prim.Native.Nat.{ℕ, zero, suc, _+_, _*_, _^_, _≤_, _<_}
 use mathlib.Core.Path.{_≡_, refl, sym, ap, ap₂, fun-ext, _∙_}
-use mathlib.Core.Bool.{Bool, true, false, cond, _&&_, and-true}
+use mathlib.Core.Bool.{Bool, true, false, cond, _&&_, and-assoc, and-false}
 use mathlib.Core.List.{List, [], _∷_}
 use native.Mathlib.Nat.{add-assoc, mul-le-mul}
 use native.Mathlib.Omega.{arith}
@@ -14,21 +14,23 @@ use borrow.Author.Tests.{lt-ltb, le-ltb}
 use Rattle.lists.specs.Below.{anyBelow}
 use Rattle.lists.specs.Numbers.{byteAt}
 use Rattle.lists.proofs.BelowLaws.{any-cong}
-use Rattle.words.specs.Bits.{hasBit, firstBit}
+use Rattle.words.specs.Bits.{hasBit}
 use Rattle.bisimulation.specs.Systems.{View, Ranks, WellFormed, flip, swap}
 use Rattle.certificates.specs.declared.Sizes.{Sizes}
 use Rattle.certificates.specs.Layout.{alAt, arAt, clAt, crAt}
 use Rattle.certificates.proofs.LayoutLaws.{products-fit}
-use Rattle.sides.specs.Side.{systemIn, relatedTo, enteredFrom, linkedFrom, nextStep, stepsIn}
+use Rattle.sides.specs.Side.{systemIn, keyAt, relatedTo, silentFrom, linkedFrom, nextStep, stepsIn, enteredBy}
 use Rattle.sides.specs.Views.{viewIn}
 use Rattle.sides.specs.Built.{Linked}
-use Rattle.outcomes.specs.declared.Clause.the-variants.{Step}
+use Rattle.sides.proofs.GroupLaws.{silent-start}
+use Rattle.sides.proofs.LinkLaws.{eqb-swap}
+use Rattle.outcomes.specs.declared.Clause.the-variants.{Step, Stutter}
 use Rattle.outcomes.specs.declared.Outcome.the-variants.{Met}
 use Rattle.obligations.specs.declared.Run.{Run}
-use Rattle.outcomes.specs.Obligation.{withoutStep, obligationOf, obligationAt}
+use Rattle.outcomes.specs.Obligation.{withoutStutter, withoutStep, obligationOf, obligationAt}
 use Rattle.outcomes.proofs.ObligationLaws.{Faces, Ranked}
 use Rattle.obligations.specs.Judging.{checksBy, checks}
-use Rattle.obligations.specs.OnSides.{checksIn, stutterAt, matchRow, facingIn, obligationIn}
+use Rattle.obligations.specs.OnSides.{checksIn, stutterAt, matchRow, facingIn, servingIn, outcomeByRanks, obligationIn}
 use Rattle.outcomes.proofs.ObligationLaws.{obligation-is}
 
 -- ---- the checks
@@ -91,50 +93,76 @@ module _ (certificate : List ℕ) (run : Run) (r : Ranks) (at : RanksAt certific
 -- ---- one obligation
 
 module _ (ours theirs certificate : List ℕ) (run : Run) (j t : ℕ) where
-  module _ {u target entering met : ℕ} (eu : u ≡ systemIn ours .to j) (et : target ≡ relatedTo ours u) (en : entering ≡ enteredFrom theirs t)
-      (em : met ≡ firstBit (bitAnd entering target)) where
-    met-is : met ≡ firstBit (bitAnd (enteredFrom theirs t) (relatedTo ours (systemIn ours .to j)))
-    met-is = em ∙ ap₂ (λ (x y : ℕ). firstBit (bitAnd x y)) en (et ∙ ap (relatedTo ours) eu)
+  -- 2a holds
+  pub by-step : {state : ℕ} → state ≡ servingIn ours theirs j t → state < 64 → Met Step state ≡ obligationIn ours theirs certificate run j t
+  unfolding obligationIn obligationOf
+  by-step e h = let k = rw e at h in rw e (sym (rw (lt-ltb (servingIn ours theirs j t) 64 k)))
 
-    -- 2a holds
-    pub by-step : met < 64 → Met Step met ≡ obligationIn ours theirs certificate run j t
-    unfolding obligationIn obligationOf
-    by-step h = let k = rw met-is at h in rw met-is (sym (rw (lt-ltb _ 64 k)))
+  -- it does not
+  pub by-ranks : {state : ℕ} → state ≡ servingIn ours theirs j t → 64 ≤ state
+      → outcomeByRanks ours theirs certificate run j t ≡ obligationIn ours theirs certificate run j t
+  unfolding obligationIn outcomeByRanks obligationOf
+  by-ranks e h = let k = rw e at h in sym (rw (le-ltb (servingIn ours theirs j t) 64 k))
 
-    -- it does not
-    pub by-rank : {s source before after : ℕ} {ranks : List ℕ} → 64 ≤ met → s ≡ systemIn ours .from j → source ≡ relatedTo ours s
-        → before ≡ stutterAt certificate run s t → after ≡ stutterAt certificate run u t → ranks ≡ matchRow certificate run j
-        → withoutStep
-        (record {
-          from = record { 0 = source };
-          to = record { 0 = target };
-          serving = record { 0 = entering };
-          silent = record { 0 = entering };
-          quiet = true;
-        })
-        t before after ranks
-        ≡ obligationIn ours theirs certificate run j t
-    unfolding obligationIn obligationOf
-    by-rank h es ef eb ea er = let k = rw met-is at h in sym (rw (le-ltb _ 64 k) (sym (rw (eb, ea, er, ef, es, et, eu, en))))
+  -- where 2a does not hold: 2b is looked at first, for a step that stays, and then 2c
+  module _ {s u : ℕ} {stays : Bool} (es : s ≡ systemIn ours .from j) (eu : u ≡ systemIn ours .to j)
+      (ey : stays ≡ (systemIn ours .silent j && hasBit (relatedTo ours u) t)) where
+    stays-is : stays ≡ (systemIn ours .silent j && hasBit (relatedTo ours (systemIn ours .to j)) t)
+    stays-is = ey ∙ ap (λ (x : ℕ). systemIn ours .silent j && hasBit (relatedTo ours x) t) eu
+
+    -- the test of 2b
+    abbrev pub falls : Bool
+    falls = ltb (stutterAt certificate run (systemIn ours .to j) t) (stutterAt certificate run (systemIn ours .from j) t)
+
+    abbrev pub stutters : Bool
+    stutters = (systemIn ours .silent j && hasBit (relatedTo ours (systemIn ours .to j)) t) && falls
+
+    pub by-stutter : {before after : ℕ} → stays ≡ true → before ≡ stutterAt certificate run s t → after ≡ stutterAt certificate run u t → after < before
+        → Met Stutter t ≡ outcomeByRanks ours theirs certificate run j t
+    unfolding outcomeByRanks withoutStep
+    by-stutter y eb ea h = let k = rw (ea, eb, eu, es) at h in sym (rw (sym stays-is ∙ y, lt-ltb _ _ k))
+
+    -- it does not stay, or the rank does not fall
+    pub stutters-not : stays ≡ false → stutters ≡ false
+    stutters-not y = ap (λ (b : Bool). b && falls) (sym stays-is ∙ y)
+
+    pub stutters-level : {before after : ℕ} → before ≡ stutterAt certificate run s t → after ≡ stutterAt certificate run u t → before ≤ after → stutters ≡ false
+    stutters-level eb ea h =
+        let k = rw (ea, eb, eu, es) at h in
+        ap (λ (b : Bool). (systemIn ours .silent j && hasBit (relatedTo ours (systemIn ours .to j)) t) && b) (le-ltb _ _ k)
+        ∙ and-false (systemIn ours .silent j && hasBit (relatedTo ours (systemIn ours .to j)) t)
+
+    pub by-match : {ahead : ℕ} {ranks : List ℕ} → stutters ≡ false → ahead ≡ bitAnd (silentFrom theirs t) (relatedTo ours s) → ranks ≡ matchRow certificate run j
+        → withoutStutter stays ahead ranks t ≡ outcomeByRanks ours theirs certificate run j t
+    unfolding outcomeByRanks withoutStep
+    by-match n ea er = sym (rw n (sym (rw (ea, er, stays-is, es))))
 
   -- in sides of tables that are read, with the ranks of the certificate, it has the theory's outcome
   module _ (r : Ranks) (a : Linked ours) (b : Linked theirs) (at : RanksAt certificate run r) (h : t < 64) (l : j < systemIn ours .steps) where
-    entered-is : (u : ℕ)
-        → hasBit (enteredFrom theirs t) u ≡ anyBelow (systemIn theirs .steps) (λ k. eqb (systemIn theirs .from k) t && true && eqb (systemIn theirs .to k) u)
-    entered-is u =
-        b .entered-are t u
-        ∙ any-cong _ _ _ (λ k _. ap (λ (x : Bool). x && eqb (systemIn theirs .to k) u) (sym (and-true (eqb (systemIn theirs .from k) t))))
+    serving-is : (u : ℕ) → hasBit (enteredBy theirs t (keyAt ours j)) u
+        ≡ anyBelow (systemIn theirs .steps) (λ k. eqb (systemIn theirs .from k) t && eqb (keyAt ours j) (keyAt theirs k) && eqb (systemIn theirs .to k) u)
+    serving-is u =
+        b .entered-are t (keyAt ours j) u
+        ∙ any-cong _ _ _ (λ k _. sym (and-assoc (eqb (systemIn theirs .from k) t) (eqb (keyAt ours j) (keyAt theirs k)) (eqb (systemIn theirs .to k) u)))
+
+    silent-is : (u : ℕ) → hasBit (silentFrom theirs t) u
+        ≡ anyBelow (systemIn theirs .steps) (λ k. eqb (systemIn theirs .from k) t && systemIn theirs .silent k && eqb (systemIn theirs .to k) u)
+    silent-is u =
+        ap (λ (x : ℕ). hasBit x u) (sym (silent-start theirs t 0 refl))
+        ∙ b .entered-are t 0 u
+        ∙ any-cong _ _ _ (λ k _. sym (and-assoc (eqb (systemIn theirs .from k) t) (eqb 0 (keyAt theirs k)) (eqb (systemIn theirs .to k) u))
+        ∙ ap (λ (x : Bool). eqb (systemIn theirs .from k) t && x && eqb (systemIn theirs .to k) u) (eqb-swap 0 (keyAt theirs k)))
 
     faces : Faces (viewIn ours theirs) j t (facingIn ours theirs j t)
     faces =
         record {
           related-from = λ x. refl;
           related-to = λ x. refl;
-          serving = entered-is;
-          silent = entered-is;
+          serving = serving-is;
+          silent = silent-is;
           quiet = refl;
-          serving< = b .entered< t;
-          silent< = b .entered< t;
+          serving< = b .entered< t (keyAt ours j);
+          silent< = rw (← silent-start theirs t 0 refl) (b .entered< t 0);
         }
 
     ranked : Ranked (viewIn ours theirs) r j t

@@ -1,6 +1,6 @@
 -- What is read off two sides and a certificate: the checks in judging order, and one obligation with its ranks.
 use Prim.Native.Nat.{ℕ, _+_, _*_}
-use mathlib.Core.Bool.{true, cond, _&&_}
+use mathlib.Core.Bool.{cond, _&&_}
 use mathlib.Core.List.{List, []}
 use lib.Dec.{ltb}
 use lib.ListN.{drop}
@@ -8,11 +8,10 @@ use Rattle.lists.specs.Numbers.{byteAt}
 use Rattle.tables.specs.Table.{maxStates, maxSteps}
 use Rattle.certificates.specs.Layout.{alAt, arAt, clAt, crAt}
 use Rattle.certificates.specs.declared.Sizes.{Sizes}
-use Rattle.sides.specs.Side.{systemIn, relatedTo, enteredFrom, stepsIn}
+use Rattle.sides.specs.Side.{systemIn, keyAt, relatedTo, silentFrom, stepsIn, enteredBy}
 use Rattle.sides.specs.Views.{viewIn}
-use Rattle.outcomes.specs.Obligation.{obligationOf}
+use Rattle.outcomes.specs.Obligation.{Facing, servingState, withoutStep, obligationOf}
 use Rattle.obligations.specs.Judging.{Check, checksBy}
-use Rattle.outcomes.specs.declared.Facing.{Facing}
 use Rattle.outcomes.specs.declared.Outcome.{Outcome}
 use Rattle.obligations.specs.declared.Run.{Run}
 
@@ -44,15 +43,25 @@ module _ (ours theirs : List ℕ) where
   abbrev pub facingIn : ℕ → ℕ → Facing
   facingIn j t =
       record {
-        from = record { 0 = relatedTo ours (systemIn ours .from j) };
-        to = record { 0 = relatedTo ours (systemIn ours .to j) };
-        serving = record { 0 = enteredFrom theirs t };
-        silent = record { 0 = enteredFrom theirs t };
-        quiet = true;
+        from = relatedTo ours (systemIn ours .from j);
+        to = relatedTo ours (systemIn ours .to j);
+        serving = enteredBy theirs t (keyAt ours j);
+        silent = silentFrom theirs t;
+        quiet = systemIn ours .silent j;
       }
 
-  -- Its outcome, with the ranks that stand in the certificate.
-  unfoldable pub obligationIn : List ℕ → Run → ℕ → ℕ → Outcome
-  obligationIn certificate run j t =
-      obligationOf (facingIn j t) t (stutterAt certificate run (systemIn ours .from j) t) (stutterAt certificate run (systemIn ours .to j) t)
-      (matchRow certificate run j)
+  -- The smallest state that meets it by 2a, and 64 where there is none.
+  abbrev pub servingIn : ℕ → ℕ → ℕ
+  servingIn j t = servingState (facingIn j t)
+
+  module _ (certificate : List ℕ) (run : Run) (j t : ℕ) where
+    -- Its outcome where 2a does not hold, and its outcome, with the ranks that stand in the certificate.
+    unfoldable pub outcomeByRanks : Outcome
+    outcomeByRanks =
+        withoutStep (facingIn j t) t (stutterAt certificate run (systemIn ours .from j) t) (stutterAt certificate run (systemIn ours .to j) t)
+        (matchRow certificate run j)
+
+    unfoldable pub obligationIn : Outcome
+    obligationIn =
+        obligationOf (facingIn j t) t (stutterAt certificate run (systemIn ours .from j) t) (stutterAt certificate run (systemIn ours .to j) t)
+        (matchRow certificate run j)

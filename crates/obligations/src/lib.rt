@@ -4,18 +4,23 @@ use certificates::Sizes;
 use lists::byte;
 use lists::part_of;
 use outcomes::Clause;
-use outcomes::Facing;
 use outcomes::Outcome;
-use outcomes::without_step;
+use outcomes::without_stutter;
 use sides::Side;
-use sides::entered;
+use sides::entered_by;
 use sides::from;
+use sides::key;
 use sides::related;
+use sides::silent;
 use sides::to;
 use tables::Head;
 ghost use mathlib.Core.Path.{_≡_};
+ghost use mathlib.Core.Bool.{_&&_};
+ghost use Rattle.words.specs.Bits.{hasBit};
+ghost use Rattle.sides.specs.Side.{systemIn, relatedTo};
 ghost use Rattle.obligations.specs.CheckAnswers.{leftState, rightState, placeAnswer};
-ghost use Rattle.obligations.specs.OnSides.{leftRun, rightRun, stutterAt, matchRow, obligationIn};
+ghost use Rattle.obligations.specs.OnSides.{leftRun, rightRun, stutterAt, matchRow};
+ghost use Rattle.obligations.specs.OnSides.{servingIn, outcomeByRanks, obligationIn};
 
 // Where the A ranks and the C ranks of a side begin in a certificate, and how many states the other side has. The widths are such that no sum of them
 // is too large.
@@ -120,7 +125,54 @@ fn match_row(certificate: &[u8], run: Run, j: usize) -> &[u8]
     part_of(certificate, at + j * n, end)
 }
 
-// The outcome of the obligation of our step j at t, with the ranks that stand in the certificate.
+// The smallest state that meets the obligation of our step j at t by 2a, and 64 where there is none.
+pub fn serving_state(ours: &Side, theirs: &Side, j: usize, t: usize) -> usize
+    ensures { λ r. ⌜ r ≡ servingIn (now (ours .entry)) (now (theirs .entry)) j t ⌝ }
+{
+    let target = related(ours, to(ours, j));
+    let serving = entered_by(theirs, t, key(ours, j));
+    let met = serving.intersect(target);
+    met.first()
+}
+
+// Whether our step j, which enters u, stays at t: it is silent, and u and t are related.
+fn stays(ours: &Side, j: usize, u: usize, t: usize) -> bool
+    ensures { λ r. ⌜ r ≡ (systemIn (now (ours .entry)) .silent j && hasBit (relatedTo (now (ours .entry)) u) t) ⌝ }
+{
+    if key(ours, j) == 0 {
+        let target = related(ours, u);
+        return target.has(t);
+    }
+    false
+}
+
+// The outcome of the obligation of our step j at t where 2a does not hold, with the ranks that stand in the certificate.
+pub fn outcome_by_ranks(
+    ours: &Side,
+    theirs: &Side,
+    certificate: &[u8],
+    run: Run,
+    j: usize,
+    t: usize,
+) -> Outcome
+    ensures { λ r. ⌜ r ≡ outcomeByRanks (now (ours .entry)) (now (theirs .entry)) (now (certificate .entry)) run j t ⌝ }
+{
+    let s = from(ours, j);
+    let u = to(ours, j);
+    let staying = stays(ours, j, u, t);
+    if staying {
+        let before = stutter_at(certificate, run, s, t);
+        let after = stutter_at(certificate, run, u, t);
+        if after < before {
+            return Outcome::Met(Clause::Stutter, t);
+        }
+    }
+    let quiet = silent(theirs, t);
+    let ahead = quiet.intersect(related(ours, s));
+    without_stutter(staying, ahead, match_row(certificate, run, j), t)
+}
+
+// The outcome of the obligation of our step j at t. Most are met by 2a, which looks at no rank.
 pub fn obligation_at(
     ours: &Side,
     theirs: &Side,
@@ -131,25 +183,9 @@ pub fn obligation_at(
 ) -> Outcome
     ensures { λ r. ⌜ r ≡ obligationIn (now (ours .entry)) (now (theirs .entry)) (now (certificate .entry)) run j t ⌝ }
 {
-    let u = to(ours, j);
-    let target = related(ours, u);
-    let entering = entered(theirs, t);
-    // Most obligations are met by 2a, which looks at no rank.
-    let met = entering.intersect(target);
-    let state = met.first();
+    let state = serving_state(ours, theirs, j, t);
     if state < Head::MAX_STATES {
         return Outcome::Met(Clause::Step, state);
     }
-    let s = from(ours, j);
-    let facing = Facing {
-        from: related(ours, s),
-        to: target,
-        serving: entering,
-        silent: entering,
-        quiet: true,
-    };
-    let before = stutter_at(certificate, run, s, t);
-    let after = stutter_at(certificate, run, u, t);
-    let ranks = match_row(certificate, run, j);
-    without_step(facing, t, before, after, ranks)
+    outcome_by_ranks(ours, theirs, certificate, run, j, t)
 }

@@ -22,8 +22,8 @@ use Rattle.bisimulation.specs.Judge.{meets2a, meets2c, is2a, is2b, is2c}
 use Rattle.bisimulation.specs.Matcher.{smallestEntered}
 use Rattle.bisimulation.specs.Triples.{ahead}
 use Rattle.bisimulation.proofs.ClauseLaws.{Enters, smallest-entered}
-use Rattle.outcomes.specs.declared.Facing.{Facing}
-use Rattle.outcomes.specs.Obligation.{outcomeAfter2a, isApart, obligationAt, firstFalling, staysAt, withoutStep, obligationOf}
+use Rattle.outcomes.specs.Obligation.{Facing, outcomeAfter2a, isApart, obligationAt, firstFalling, staysAt}
+use Rattle.outcomes.specs.Obligation.{withoutStutter, withoutStep, servingState, obligationOf}
 
 -- ---- what is asked of words and numbers
 
@@ -35,14 +35,14 @@ pub record Ranked (v : View) (r : Ranks) (j t before after : ℕ) (ranks : List 
 
 -- The words are those of the own step j at t.
 pub record Faces (v : View) (j t : ℕ) (f : Facing) : Type 0 where
-  pub related-from : (x : ℕ) → hasBit (f .from .0) x ≡ v .related (v .own .from j) x
-  pub related-to : (x : ℕ) → hasBit (f .to .0) x ≡ v .related (v .own .to j) x
-  pub serving : (x : ℕ) → hasBit (f .serving .0) x ≡ anyBelow (v .other .steps) (λ k. eqb (v .other .from k) t && v .serves j k && eqb (v .other .to k) x)
-  pub silent : (x : ℕ) → hasBit (f .silent .0) x ≡ anyBelow (v .other .steps) (λ k. eqb (v .other .from k) t && v .other .silent k && eqb (v .other .to k) x)
+  pub related-from : (x : ℕ) → hasBit (f .from) x ≡ v .related (v .own .from j) x
+  pub related-to : (x : ℕ) → hasBit (f .to) x ≡ v .related (v .own .to j) x
+  pub serving : (x : ℕ) → hasBit (f .serving) x ≡ anyBelow (v .other .steps) (λ k. eqb (v .other .from k) t && v .serves j k && eqb (v .other .to k) x)
+  pub silent : (x : ℕ) → hasBit (f .silent) x ≡ anyBelow (v .other .steps) (λ k. eqb (v .other .from k) t && v .other .silent k && eqb (v .other .to k) x)
   pub quiet : f .quiet ≡ v .own .silent j
   -- they are words of 64 bits
-  pub serving< : f .serving .0 < 2 ^ 64
-  pub silent< : f .silent .0 < 2 ^ 64
+  pub serving< : f .serving < 2 ^ 64
+  pub silent< : f .silent < 2 ^ 64
 
 module _ (ranks : List ℕ) (t : ℕ) where
   -- the rank falls at x
@@ -81,25 +81,6 @@ pub walk-shorter : (word : ℕ) → word < 2 ^ 64 → firstBit word < 64 → cou
 walk-shorter word w h = omega (arith, bits.count-remove word (firstBit word) w (bits.first-has word h))
 
 -- ---- the first that holds
-
-module _ (b c d : Bool) (t x : ℕ) where
-  pub outcome-stutter : b ≡ true → outcomeAfter2a b t c x d ≡ Met Stutter t
-  unfolding outcomeAfter2a
-  outcome-stutter q = rw q
-
-  module _ (q : b ≡ false) where
-    pub outcome-match : c ≡ true → outcomeAfter2a b t c x d ≡ Met Match x
-    unfolding outcomeAfter2a
-    outcome-match r = rw (q, r)
-
-    module _ (r : c ≡ false) where
-      pub outcome-apart : d ≡ true → outcomeAfter2a b t c x d ≡ Failed Apart
-      unfolding outcomeAfter2a
-      outcome-apart e = rw (q, r, e)
-
-      pub outcome-rank : d ≡ false → outcomeAfter2a b t c x d ≡ Failed Rank
-      unfolding outcomeAfter2a
-      outcome-rank e = rw (q, r, e)
 
 -- a state is named only where its clause holds
 same-outcome : (a b c d : Bool) (t : ℕ) {x x′ y y′ : ℕ} → (T a → x ≡ x′) → (T c → y ≡ y′)
@@ -167,15 +148,14 @@ module _ (v : View) (r : Ranks) (j t : ℕ) (f : Facing) (faces : Faces v j t f)
             let c : T (hasBit to x) = subst T (sym (rel x)) (rw (q .3) at g) in
             subst T (sym (bits.has-both word to x)) (and-i (hasBit word x) (hasBit to x) b c)
 
-  answer-tells : Tells other (meets2a v j t) (hasBit (bitAnd (f .serving .0) (f .to .0)))
-  answer-tells = both-tell (serves j) (f .serving .0) (f .to .0) (own .to j) (faces .serving) (faces .related-to) (faces .serving<)
+  answer-tells : Tells other (meets2a v j t) (hasBit (bitAnd (f .serving) (f .to)))
+  answer-tells = both-tell (serves j) (f .serving) (f .to) (own .to j) (faces .serving) (faces .related-to) (faces .serving<)
 
   ahead-tells : Tells other (λ k. eqb (other .from k) t && other .silent k && related (own .from j) (other .to k))
-      (hasBit (bitAnd (f .silent .0) (f .from .0)))
-  ahead-tells = both-tell (other .silent) (f .silent .0) (f .from .0) (own .from j) (faces .silent) (faces .related-from) (faces .silent<)
+      (hasBit (bitAnd (f .silent) (f .from)))
+  ahead-tells = both-tell (other .silent) (f .silent) (f .from) (own .from j) (faces .silent) (faces .related-from) (faces .silent<)
 
   stays-is : staysAt f t ≡ stays v j t
-  unfolding staysAt
   stays-is = ap₂ _&&_ (faces .quiet) (faces .related-to t)
 
   module _ (before after : ℕ) (ranks : List ℕ) (ranked : Ranked v r j t before after ranks) where
@@ -186,11 +166,11 @@ module _ (v : View) (r : Ranks) (j t : ℕ) (f : Facing) (faces : Faces v j t f)
     falls-is : (x : ℕ) → falls ranks t x ≡ ltb (r .match j x) (r .match j t)
     falls-is x = ap₂ ltb (ranked .ranks-are x) (ranked .ranks-are t)
 
-    match-tells : Tells other (meets2c v r j t) (λ x. hasBit (bitAnd (f .silent .0) (f .from .0)) x && falls ranks t x)
+    match-tells : Tells other (meets2c v r j t) (λ x. hasBit (bitAnd (f .silent) (f .from)) x && falls ranks t x)
     match-tells = record { entered = entered; told = told; small = λ x p. ahead-tells .small x (and-l (hasBit set x) _ p) }
       where
         set : ℕ
-        set = bitAnd (f .silent .0) (f .from .0)
+        set = bitAnd (f .silent) (f .from)
 
         entered : (x : ℕ) → T (hasBit set x && falls ranks t x) → Enters other (meets2c v r j t) x
         entered x p =
@@ -207,7 +187,7 @@ module _ (v : View) (r : Ranks) (j t : ℕ) (f : Facing) (faces : Faces v j t f)
 
     -- on the words and ranks of a step the outcome is the theory's
     pub obligation-is : obligationOf f t before after ranks ≡ obligationAt v r j t
-    unfolding obligationOf withoutStep obligationAt isApart ahead is2a is2c firstBit firstFalling
+    unfolding obligationOf servingState withoutStep withoutStutter outcomeAfter2a obligationAt isApart ahead is2a is2c firstBit firstFalling
     obligation-is =
         rw (tells-some _ _ _ answer-tells, stutter-is, tells-some _ _ _ match-tells, stays-is, tells-some _ _ _ ahead-tells)
         (same-outcome (is2a v j t) (is2b v r j t) (is2c v r j t) (isApart v j t) t (tells-smallest _ _ _ answer-tells) (tells-smallest _ _ _ match-tells))

@@ -18,7 +18,6 @@ use Rattle.outcomes.specs.declared.Failure.{Failure}
 use Rattle.outcomes.specs.declared.Failure.the-variants.{Apart, Rank}
 use Rattle.outcomes.specs.declared.Outcome.{Outcome}
 use Rattle.outcomes.specs.declared.Outcome.the-variants.{Met, Failed}
-use Rattle.outcomes.specs.declared.Facing.{Facing}
 
 -- The clauses are printed as 1, 2 and 3.
 abbrev pub clauseNumber : Clause → ℕ
@@ -31,10 +30,13 @@ abbrev pub failureNumber : Failure → ℕ
 failureNumber Apart = 18
 failureNumber Rank = 19
 
--- Where 2a does not hold: it is met by 2b, with the state t, or else by 2c, with the state x, or else it failed, with 18 where the two are apart and 19
--- otherwise.
+-- Where neither 2a nor 2b holds: it is met by 2c, with the state x, or else it failed, with 18 where the two are apart and 19 otherwise.
+abbrev pub outcomeAfter2b : (by2c : Bool) → ℕ → (apart : Bool) → Outcome
+outcomeAfter2b c x apart = cond c (Met Match x) (cond apart (Failed Apart) (Failed Rank))
+
+-- Where 2a does not hold: it is met by 2b, with the state t, or else as above.
 unfoldable pub outcomeAfter2a : (by2b : Bool) → ℕ → (by2c : Bool) → ℕ → (apart : Bool) → Outcome
-outcomeAfter2a b t c x apart = cond b (Met Stutter t) (cond c (Met Match x) (cond apart (Failed Apart) (Failed Rank)))
+outcomeAfter2a b t c x apart = cond b (Met Stutter t) (outcomeAfter2b c x apart)
 
 -- Where 18 fits: u, t unrelated (or the step not silent), and no silent step from t to a state related to s.
 unfoldable pub isApart : View → ℕ → ℕ → Bool
@@ -49,23 +51,37 @@ obligationAt v r j t =
 
 -- ---- on words
 
+-- What an obligation looks at, as words: the states related to s and to u; those that steps from t enter which serve this one in 2a, and those that silent
+-- steps from t enter; and whether the step is silent.
+pub record Facing : Type 0 where
+  pub from : ℕ
+  pub to : ℕ
+  pub serving : ℕ
+  pub silent : ℕ
+  pub quiet : Bool
+
 -- The smallest state of the word at which the rank is below that at t, and 64 where there is none.
 unfoldable pub firstFalling : ℕ → List ℕ → ℕ → ℕ
 firstFalling word ranks t = firstBelow maxStates (λ x. hasBit word x && ltb (byteAt ranks x) (byteAt ranks t))
 
 -- The step stays inside a block: it is silent, and enters a state related to t.
-unfoldable pub staysAt : Facing → ℕ → Bool
-staysAt f t = f .quiet && hasBit (f .to .0) t
+abbrev pub staysAt : Facing → ℕ → Bool
+staysAt f t = f .quiet && hasBit (f .to) t
+
+-- The outcome where neither 2a nor 2b holds, by the word of the states ahead.
+unfoldable pub withoutStutter : Bool → ℕ → List ℕ → ℕ → Outcome
+withoutStutter stays ahead ranks t =
+    outcomeAfter2b (ltb (firstFalling ahead ranks t) maxStates) (firstFalling ahead ranks t) (not stays && not (ltb (firstBit ahead) maxStates))
 
 -- The outcome where 2a does not hold.
 unfoldable pub withoutStep : Facing → ℕ → ℕ → ℕ → List ℕ → Outcome
 withoutStep f t before after ranks =
-    let set = bitAnd (f .silent .0) (f .from .0) in
-    outcomeAfter2a (staysAt f t && ltb after before) t (ltb (firstFalling set ranks t) maxStates) (firstFalling set ranks t)
-    (not (staysAt f t) && not (ltb (firstBit set) maxStates))
+    cond (staysAt f t && ltb after before) (Met Stutter t) (withoutStutter (staysAt f t) (bitAnd (f .silent) (f .from)) ranks t)
+
+-- The smallest state that meets it by 2a, and 64 where there is none.
+unfoldable pub servingState : Facing → ℕ
+servingState f = firstBit (bitAnd (f .serving) (f .to))
 
 -- The outcome, where the words have the states that the theory's tests speak of.
 unfoldable pub obligationOf : Facing → ℕ → ℕ → ℕ → List ℕ → Outcome
-obligationOf f t before after ranks =
-    let state = firstBit (bitAnd (f .serving .0) (f .to .0)) in
-    cond (ltb state maxStates) (Met Step state) (withoutStep f t before after ranks)
+obligationOf f t before after ranks = cond (ltb (servingState f) maxStates) (Met Step (servingState f)) (withoutStep f t before after ranks)

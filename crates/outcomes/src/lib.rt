@@ -4,9 +4,7 @@ use lists::byte;
 use tables::Head;
 use words::Row;
 ghost use mathlib.Core.Path.{_≡_};
-ghost use lib.Dec.{ltb};
-ghost use mathlib.Core.Bool.{_&&_};
-ghost use Rattle.outcomes.specs.Obligation.{firstFalling, staysAt, withoutStep, clauseNumber, failureNumber};
+ghost use Rattle.outcomes.specs.Obligation.{firstFalling, withoutStutter, clauseNumber, failureNumber};
 
 // The clause that meets an obligation: 2a, 2b or 2c.
 pub enum Clause {
@@ -25,18 +23,6 @@ pub enum Failure {
 pub enum Outcome {
     Met(Clause, usize),
     Failed(Failure),
-}
-
-// What an obligation looks at.
-pub struct Facing {
-    // The states of the other side that are related to s, and to u.
-    pub from: Row,
-    pub to: Row,
-    // The states that steps from t enter: steps that serve this one in 2a, and silent steps.
-    pub serving: Row,
-    pub silent: Row,
-    // Whether the step is silent.
-    pub quiet: bool,
 }
 
 impl Clause {
@@ -83,42 +69,16 @@ fn falling_state(set: Row, ranks: &[u8], t: usize) -> usize
     Head::MAX_STATES
 }
 
-// Whether the step stays inside a block: it is silent, and u and t are related.
-fn stays(facing: Facing, t: usize) -> bool
-    ensures { λ r. ⌜ r ≡ staysAt facing t ⌝ }
+// The outcome where neither 2a nor 2b holds: 2c, else the failure. `stays` says whether the step is silent and u, t are related; `ahead` has the states related
+// to s that silent steps from t enter, and `ranks` the C ranks of this step at each state of the other side.
+pub fn without_stutter(stays: bool, ahead: Row, ranks: &[u8], t: usize) -> Outcome
+    ensures { λ r. ⌜ r ≡ withoutStutter stays (ahead .0) (now (ranks .entry)) t ⌝ }
 {
-    if facing.quiet {
-        let to = facing.to;
-        return to.has(t);
-    }
-    false
-}
-
-// Whether 2b holds, for the A ranks of (s, t) before and (u, t) after the step.
-fn meets_2b(facing: Facing, t: usize, before: usize, after: usize) -> bool
-    ensures { λ r. ⌜ r ≡ (staysAt facing t && ltb after before) ⌝ }
-{
-    if stays(facing, t) {
-        return after < before;
-    }
-    false
-}
-
-// The outcome where 2a does not hold: the first of 2b and 2c that holds, else the failure. `before` and `after` are the A ranks of (s, t) and of
-// (u, t), and `ranks` has the C ranks of this step at each state of the other side.
-pub fn without_step(facing: Facing, t: usize, before: usize, after: usize, ranks: &[u8]) -> Outcome
-    ensures { λ r. ⌜ r ≡ withoutStep facing t before after (now (ranks .entry)) ⌝ }
-{
-    if meets_2b(facing, t, before, after) {
-        return Outcome::Met(Clause::Stutter, t);
-    }
-    let silent = facing.silent;
-    let ahead = silent.intersect(facing.from);
     let state = falling_state(ahead, ranks, t);
     if state < Head::MAX_STATES {
         return Outcome::Met(Clause::Match, state);
     }
-    if stays(facing, t) {
+    if stays {
         return Outcome::Failed(Failure::Rank);
     }
     if ahead.first() < Head::MAX_STATES {

@@ -3,7 +3,7 @@
 use Prim.Native.Nat.{ℕ}
 use mathlib.Core.Path.{_≡_, refl, sym, ap, _∙_, subst}
 use mathlib.Core.Logic.{inl}
-use mathlib.Core.Bool.{true}
+use mathlib.Core.Bool.{true, false}
 use mathlib.Core.List.{List, flatMap}
 use lib.ListN.{drop}
 use Rattle.lists.specs.Numbers.{byteAt}
@@ -17,19 +17,25 @@ use Rattle.answers.specs.Numbers.{sixNumbers}
 use Rattle.answers.specs.Verdicts.{Verdict, goOn, refusedWith, _andThen_}
 use Rattle.answers.specs.declared.Answer.{Answer}
 use Rattle.answers.proofs.DecideLaws.{decides-true}
-use Rattle.answers.proofs.VerdictLaws.{none-on}
+use Rattle.answers.proofs.VerdictLaws.{none-on, on-none}
+use Rattle.tables.specs.Table.{keyed}
+use Rattle.table_pairs.specs.TablePairs.{plainTablesVerdict, asTablesRead, tablesRefusal}
+use Rattle.table_pairs.specs.declared.TablesRead.{TablesRead}
+use Rattle.table_pairs.specs.declared.TablesRead.the-variants.{Refused}
+use Rattle.table_pairs.proofs.PairLaws.{was-refused}
+use Rattle.table_pairs.proofs.PairCauseLaws.{plain-tables-decided, plain-tables-none}
 use Rattle.certificates.specs.Layout.{sizesOf}
 use Rattle.certificates.specs.CertificateModel.{AreBytes, ranksOf, certifiedView, certifiedRanks}
 use Rattle.certified_sides.specs.declared.Sides.{Sides}
 use Rattle.certified_sides.specs.Made.{CertifiedSides}
-use Rattle.sides.specs.Built.{Linked}
+use Rattle.sides.specs.Built.{PlainSide}
 use Rattle.sides.specs.Views.{viewIn}
 use Rattle.obligations.specs.declared.Run.{Run}
 use Rattle.obligations.specs.OnSides.{leftRun, rightRun}
 use Rattle.checker.specs.Judge.{judgeVerdict, answerAfter, judgeAnswer}
 use Rattle.sweeps.specs.declared.Tally.{Tally}
 use Rattle.checker.proofs.JudgeCauseLaws.{judge-decided, zero-none}
-use Rattle.checker.proofs.AcceptedSidesLaws.{accepted-met, accepted-sizes, accepted-sides}
+use Rattle.checker.proofs.AcceptedSidesLaws.{accepted-met, accepted-sizes, accepted-sides, accepted-plain}
 use Rattle.path_matcher.specs.Following.{
   givenAlong,
   matchedAlong,
@@ -44,7 +50,7 @@ use Rattle.path_matcher.specs.Following.{
   followStates,
   followBlocks,
 }
-use Rattle.path_matcher.specs.OnSides.{ranksIn, AllMet, givenIn, matchedIn, verdictIn}
+use Rattle.path_matcher.specs.OnSides.{ranksIn, PlainTables, AllMet, givenIn, matchedIn, verdictIn}
 use Rattle.path_matcher.proofs.FollowCauseLaws.{path-decides}
 use Rattle.path_matcher.proofs.FollowSidesLaws.{Answered, answered-refusal}
 
@@ -94,12 +100,21 @@ module _ (left right c : List ℕ) where
       (answer ≡ followAnswer left right c side start path states blocks)
       × ((states′ ≡ followStates left right c side start path states blocks) × (blocks′ ≡ followBlocks left right c side start path states blocks))
 
+  -- ---- on tables that are not read, or have keys
+
+  pub tables-refused : (side start : ℕ) (path states blocks : List ℕ) {x : TablesRead} {a answer : Answer} → x ≡ asTablesRead (plainTablesVerdict left right)
+      → x ≡ Refused a → answer ≡ tablesRefusal x → Followed side start path states blocks answer states blocks
+  unfolding followAnswer followStates followBlocks followVerdict
+  tables-refused side start path states blocks {a = a} e q d =
+      rw (was-refused (plainTablesVerdict left right) a (sym e ∙ q)) (d ∙ ap tablesRefusal q, (refl, refl))
+
   -- ---- on bytes that the judge refuses
 
-  pub judge-refused : (side start : ℕ) (path states blocks : List ℕ) {answer : Answer} → answer ≡ judgeAnswer left right c → ¬ (answer .code ≡ 0)
+  pub judge-refused : PlainTables left right → (side start : ℕ) (path states blocks : List ℕ) {answer : Answer} → answer ≡ judgeAnswer left right c
+      → ¬ (answer .code ≡ 0)
       → Followed side start path states blocks answer states blocks
   unfolding followAnswer followStates followBlocks followVerdict judgeAnswer
-  judge-refused side start path states blocks {answer} e n = go (judgeVerdict left right c) e
+  judge-refused plain side start path states blocks {answer} e n = rw (plain .1) (go (judgeVerdict left right c) e)
     where
       go : (x : Verdict Tally) → answer ≡ answerAfter left right c x
           → Answered (x andThen λ t. matchVerdict (followedView left right c side) (followedRanks left right c side) side start path states blocks)
@@ -112,19 +127,23 @@ module _ (left right c : List ℕ) where
 
 -- two sides, from either, where all obligations are met of the view that they hold
 met-on : (c : List ℕ) {ours theirs : List ℕ} {run : Run} (v : View) (r′ : Ranks)
-    → Linked ours → Linked theirs → viewIn ours theirs ≡ v → WellFormed v
+    → PlainSide ours → PlainSide theirs → viewIn ours theirs ≡ v → WellFormed v
     → EveryObligation Meets v (ranksIn c run) → EveryObligation Meets (flip v) r′ → AllMet ours theirs c run
 met-on c {run = run} v r′ a b e w D D′ =
     record {
-      linked = a;
-      linked′ = b;
+      plain = a;
+      plain′ = b;
       formed = subst WellFormed (sym e) w;
       met = subst (λ (x : View). EveryObligation Meets x (ranksIn c run)) (sym e) D;
       ranks′ = r′;
       met′ = subst (λ (x : View). EveryObligation Meets (flip x) r′) (sym e) D′;
     }
 
-module _ (left right c : List ℕ) (zero : judgeAnswer left right c .code ≡ 0) where
+module _ (left right c : List ℕ) (plain : PlainTables left right) (zero : judgeAnswer left right c .code ≡ 0) where
+  -- the tables have no keys
+  no-keys : (keyed left ≡ false) × (keyed right ≡ false)
+  no-keys = plain-tables-none left right (on-none (plain .1) (plain-tables-decided left right) .1)
+
   -- the judge goes on
   after-judge : (side start : ℕ) (path states blocks : List ℕ)
       → followVerdict left right c side start path states blocks
@@ -132,7 +151,7 @@ module _ (left right c : List ℕ) (zero : judgeAnswer left right c .code ≡ 0)
   unfolding followVerdict
   after-judge side start path states blocks =
       let x = none-on (judgeVerdict left right c) (judge-decided left right c) (zero-none left right c zero) in
-      rw (x .1)
+      rw (plain .1, x .1)
 
   followed-as : (side start : ℕ) (path states blocks : List ℕ) {answer : Answer} {states′ blocks′ : List ℕ}
       → Answered (matchVerdict (followedView left right c side) (followedRanks left right c side) side start path states blocks)
@@ -170,8 +189,9 @@ module _ (left right c : List ℕ) (zero : judgeAnswer left right c .code ≡ 0)
       left-met =
           let h = accepted-sides left right c zero certified bytes .holding in
           let m = accepted-met left right c zero bytes in
+          let p = accepted-plain left right c zero certified (no-keys .0) (no-keys .1) in
           let w = subst WellFormed left-view (h .formed) in
-          rw left-run (met-on c (certifiedView left right c) (swap (certifiedRanks left right c)) (h .linked) (h .linked′) left-view w (m .0) (m .1))
+          rw left-run (met-on c (certifiedView left right c) (swap (certifiedRanks left right c)) (p .0) (p .1) left-view w (m .0) (m .1))
 
       pub left-followed : {side : ℕ} (start : ℕ) (path states blocks : List ℕ) {answer : Answer} {states′ blocks′ : List ℕ} → side ≡ 0
           → Answered (verdictIn (s .ours) (s .theirs) c run start path states blocks) (flatMap entryBytes (matchedIn (s .ours) (s .theirs) c run path start))
@@ -192,8 +212,9 @@ module _ (left right c : List ℕ) (zero : judgeAnswer left right c .code ≡ 0)
       right-met =
           let h = accepted-sides left right c zero certified bytes .holding in
           let m = accepted-met left right c zero bytes in
+          let p = accepted-plain left right c zero certified (no-keys .0) (no-keys .1) in
           let w = flip-formed _ (subst WellFormed left-view (h .formed)) in
-          rw right-run (met-on c (flip (certifiedView left right c)) (certifiedRanks left right c) (h .linked′) (h .linked) right-view w (m .1) (m .0))
+          rw right-run (met-on c (flip (certifiedView left right c)) (certifiedRanks left right c) (p .1) (p .0) right-view w (m .1) (m .0))
 
       pub right-followed : {side : ℕ} (start : ℕ) (path states blocks : List ℕ) {answer : Answer} {states′ blocks′ : List ℕ} → side ≡ 1
           → Answered (verdictIn (s .theirs) (s .ours) c run start path states blocks) (flatMap entryBytes (matchedIn (s .theirs) (s .ours) c run path start))

@@ -21,9 +21,10 @@ use Rattle.bisimulation.specs.Triples.{stepOf}
 use Rattle.bisimulation.proofs.ClauseLaws.{Enters, smallest-entered}
 use Rattle.bisimulation.proofs.PathMatchingLaws.{path-e}
 use Rattle.bisimulation.proofs.PlainPaths.{step-of}
-use Rattle.sides.specs.Side.{systemIn, enteredFrom}
+use Rattle.sides.specs.Side.{systemIn, silentFrom}
 use Rattle.sides.specs.Views.{viewIn}
-use Rattle.sides.specs.Built.{Linked}
+use Rattle.sides.specs.Built.{PlainSide}
+use Rattle.sides.proofs.PlainLaws.{plain-entered, plain-small}
 use Rattle.outcomes.specs.declared.Clause.{Clause}
 use Rattle.outcomes.specs.declared.Clause.the-variants.{Step}
 use Rattle.outcomes.specs.declared.Outcome.{Outcome}
@@ -40,35 +41,35 @@ use Rattle.path_matcher.proofs.PathLaws.{between-is}
 
 -- ---- the smallest state that a step enters
 
-module _ {side : List ℕ} (linked : Linked side) (s : ℕ) {x : ℕ} (e : x ≡ firstBit (enteredFrom side s)) where
+module _ {side : List ℕ} (plain : PlainSide side) (s : ℕ) {x : ℕ} (e : x ≡ firstBit (silentFrom side s)) where
   abbrev S : System
   S = systemIn side
 
   from-s : ℕ → Bool
   from-s k = eqb (S .from k) s
 
-  enters : (u : ℕ) → T (hasBit (enteredFrom side s) u) → Enters S from-s u
+  enters : (u : ℕ) → T (hasBit (silentFrom side s) u) → Enters S from-s u
   unfolding from-s
   enters u h =
-      let q = any-e _ _ (subst T (linked .entered-are s u) h) in
+      let q = any-e _ _ (subst T (plain-entered plain s u) h) in
       (q .0, q .1, and-l (eqb (S .from (q .0)) s) _ (q .2), eqb→eq _ _ (and-r (eqb (S .from (q .0)) s) _ (q .2)))
 
-  entered-by : (u : ℕ) → Enters S from-s u → T (hasBit (enteredFrom side s) u)
+  entered-by : (u : ℕ) → Enters S from-s u → T (hasBit (silentFrom side s) u)
   unfolding from-s
-  entered-by u q = subst T (sym (linked .entered-are s u)) (any-i _ _ (q .0) (q .1) (and-i (eqb (S .from (q .0)) s) _ (q .2) (eq→eqb _ _ (q .3))))
+  entered-by u q = subst T (sym (plain-entered plain s u)) (any-i _ _ (q .0) (q .1) (and-i (eqb (S .from (q .0)) s) _ (q .2) (eq→eqb _ _ (q .3))))
 
   -- the first state of the word
   pub after-some : x < 64 → T (moves S s) × (x ≡ smallestEntered S (λ k. eqb (S .from k) s))
   unfolding moves from-s
   after-some h =
-      let l : firstBit (enteredFrom side s) < 64 = rw e at h in
-      let q = enters _ (first-has (enteredFrom side s) l) in
+      let l : firstBit (silentFrom side s) < 64 = rw e at h in
+      let q = enters _ (first-has (silentFrom side s) l) in
       let m = any-i _ from-s (q .0) (q .1) (q .2) in
       (m, e ∙ smallest-one (Enters S from-s) (q, λ y p. least y (entered-by y p)) (smallest-entered S from-s m))
     where
-      least : (y : ℕ) → T (hasBit (enteredFrom side s) y) → firstBit (enteredFrom side s) ≤ y
-      least y p = elim (decLt y (firstBit (enteredFrom side s))) [
-        | yes l ↦ absurd (first-least (enteredFrom side s) y l p)
+      least : (y : ℕ) → T (hasBit (silentFrom side s) y) → firstBit (silentFrom side s) ≤ y
+      least y p = elim (decLt y (firstBit (silentFrom side s))) [
+        | yes l ↦ absurd (first-least (silentFrom side s) y l p)
         | no l ↦ omega arith
       ]
 
@@ -77,8 +78,8 @@ module _ {side : List ℕ} (linked : Linked side) (s : ℕ) {x : ℕ} (e : x ≡
   unfolding moves from-s
   after-none h m =
       let q = any-e _ from-s m in
-      let l : firstBit (enteredFrom side s) ≡ 64 = omega (arith, first-bound (enteredFrom side s), e) in
-      first-none (enteredFrom side s) l (S .to (q .0)) (linked .entered< s) (entered-by _ (q .0, q .1, q .2, refl))
+      let l : firstBit (silentFrom side s) ≡ 64 = omega (arith, first-bound (silentFrom side s), e) in
+      first-none (silentFrom side s) l (S .to (q .0)) (plain-small plain s) (entered-by _ (q .0, q .1, q .2, refl))
 
 -- ---- the move is read off the sides
 
@@ -98,13 +99,13 @@ module _ {ours theirs certificate : List ℕ} {run : Run} {path : List ℕ} {pla
     pub step-named : j ≡ stepOf (v .own) (byteAt path place) (byteAt path (place + 1))
     step-named =
         at .step-is
-        ∙ between-is ours (all .linked) _ _ (has-step-decides (v .own) _ _ .complete (path-e (v .own) path (at .path-is) .2 place more))
+        ∙ between-is ours (all .plain .linked) _ _ (has-step-decides (v .own) _ _ .complete (path-e (v .own) path (at .path-is) .2 place more))
 
     outcome-named : obligationIn ours theirs certificate run j state ≡ obligationAt v r (stepOf (v .own) (byteAt path place) (byteAt path (place + 1))) state
     outcome-named =
         let q = step-of (v .own) _ _ (path-e (v .own) path (at .path-is) .2 place more) in
         let h = all .formed .there .related< state (byteAt path place) (at .related) in
-        obligation-in ours theirs certificate run j state r (all .linked) (all .linked′)
+        obligation-in ours theirs certificate run j state r (all .plain .linked) (all .plain′ .linked)
         (record { stutter-are = λ s t a b. refl; match-are = λ i t. refl }) (omega arith) (rw step-named (q .0))
         ∙ ap (λ (i : ℕ). obligationAt v r i state) step-named
 

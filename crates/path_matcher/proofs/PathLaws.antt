@@ -17,8 +17,9 @@ use Rattle.bisimulation.specs.Triples.{stepOf}
 use Rattle.lists.proofs.BoolLaws.{false-not-T}
 use Rattle.answers.proofs.DecideLaws.{decides-true, decides-false}
 use Rattle.words.specs.Bits.{hasBit}
-use Rattle.sides.specs.Side.{systemIn, enteredFrom, firstStep, nextStep, linkedFrom, stepsIn}
-use Rattle.sides.specs.Built.{Linked}
+use Rattle.sides.specs.Side.{systemIn, silentFrom, firstStep, nextStep, linkedFrom, stepsIn}
+use Rattle.sides.specs.Built.{Linked, PlainSide}
+use Rattle.sides.proofs.PlainLaws.{plain-entered}
 use Rattle.sides.proofs.WalkLaws.{walk-next, walk-end}
 use Rattle.path_matcher.specs.Following.{hasStep, wrongPath}
 use Rattle.path_matcher.specs.FollowCauses.{WrongPath}
@@ -126,9 +127,9 @@ module _ (S : System) (path : List ℕ) where
   a-path some few r = sym (decides-false (path-decides 0 S path) (no-fault some few r))
 
 -- the word of the states that steps from s enter tells whether one enters u
-pub read-step : {side : List ℕ} → Linked side → (path : List ℕ) (k i : ℕ) {s u word : ℕ} {has : Bool}
-    → s ≡ byteAt path k → u ≡ byteAt path i → word ≡ enteredFrom side s → has ≡ hasBit word u
+pub read-step : {side : List ℕ} → PlainSide side → (path : List ℕ) (k i : ℕ) {s u word : ℕ} {has : Bool}
+    → s ≡ byteAt path k → u ≡ byteAt path i → word ≡ silentFrom side s → has ≡ hasBit word u
     → hasStep (systemIn side) (byteAt path k) (byteAt path i) ≡ has
 unfolding hasStep
-read-step {side} linked path k i es eu ew eh =
-    sym (linked .entered-are (byteAt path k) (byteAt path i)) ∙ ap₂ hasBit (ap (enteredFrom side) (sym es) ∙ sym ew) (sym eu) ∙ sym eh
+read-step {side} plain path k i es eu ew eh =
+    sym (plain-entered plain (byteAt path k) (byteAt path i)) ∙ ap₂ hasBit (ap (silentFrom side) (sym es) ∙ sym ew) (sym eu) ∙ sym eh

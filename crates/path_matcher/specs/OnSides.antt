@@ -12,11 +12,13 @@ use Rattle.bisimulation.specs.PathMatching.{Entry}
 use Rattle.bisimulation.specs.PathProperty.{IsPath}
 use Rattle.bisimulation.specs.Systems.{View, Ranks, WellFormed, flip}
 use Rattle.bisimulation.specs.Triples.{stepOf}
-use Rattle.answers.specs.Verdicts.{Verdict}
+use Rattle.answers.specs.Verdicts.{Verdict, goOn}
+use Rattle.table_pairs.specs.TablePairs.{plainTablesVerdict}
+use Rattle.table_pairs.specs.declared.Heads.{Heads}
 use Rattle.tables.specs.Table.{maxSteps}
 use Rattle.sides.specs.Side.{systemIn, stepsIn}
 use Rattle.sides.specs.Views.{viewIn}
-use Rattle.sides.specs.Built.{Linked}
+use Rattle.sides.specs.Built.{PlainSide}
 use Rattle.outcomes.specs.declared.Clause.the-variants.{Step, Stutter, Match}
 use Rattle.outcomes.specs.declared.Outcome.{Outcome}
 use Rattle.outcomes.specs.declared.Outcome.the-variants.{Met, Failed}
@@ -25,6 +27,10 @@ use Rattle.obligations.specs.declared.Run.{Run}
 use Rattle.path_matcher.specs.declared.Move.{Move}
 use Rattle.path_matcher.specs.declared.Move.the-variants.{Enter, Stay, Push, End}
 use Rattle.path_matcher.specs.Following.{givenAlong, matchedAlong, matchVerdict}
+
+-- Both tables are read, and have no keys.
+abbrev pub PlainTables : (left right : List ℕ) → Type 0
+PlainTables left right = (heads : Heads) × (plainTablesVerdict left right ≡ goOn heads)
 
 -- The first of the steps that enters u, and 256 where none does.
 unfoldable pub firstTo : (side : List ℕ) → ℕ → List ℕ → ℕ
@@ -56,10 +62,10 @@ module _ (ours theirs certificate : List ℕ) (run : Run) where
   abbrev pub verdictIn : (start : ℕ) → (path states blocks : List ℕ) → Verdict ℕ
   verdictIn = matchVerdict (viewIn ours theirs) (ranksIn certificate run) 0
 
-  -- The sides are linked, and every obligation of both is met, of theirs with whatever ranks.
+  -- The sides are those of tables without keys, and every obligation of both is met, of theirs with whatever ranks.
   pub record AllMet : Type 0 where
-    pub linked : Linked ours
-    pub linked′ : Linked theirs
+    pub plain : PlainSide ours
+    pub plain′ : PlainSide theirs
     pub formed : WellFormed (viewIn ours theirs)
     pub met : EveryObligation Meets (viewIn ours theirs) (ranksIn certificate run)
     pub ranks′ : Ranks

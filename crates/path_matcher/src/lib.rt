@@ -1,4 +1,4 @@
-// A run followed on the other model. It goes by the judge's clauses in order, 2a, then 2b, then 2c, the smallest state each time; a new block begins at each
+// A run followed on the other model, of tables without keys. It goes by the judge's clauses in order, 2a, then 2b, then 2c, the smallest state each time; a new block begins at each
 // 2a. What it finds is kept until both outputs are known to have room, so that a refusal leaves them as they were.
 use answers::Answer;
 use certified_sides::sides_of;
@@ -11,12 +11,15 @@ use obligations::obligation_at;
 use outcomes::Clause;
 use outcomes::Outcome;
 use sides::Side;
-use sides::entered;
 use sides::first;
 use sides::next;
 use sides::related;
+use sides::silent;
 use sides::states;
 use sides::to;
+use table_pairs::TablesRead;
+use table_pairs::read_plain_tables;
+use table_pairs::tables_answer;
 use tables::Head;
 ghost use mathlib.Core.Path.{_≡_};
 ghost use mathlib.Core.List.{_++_, flatMap};
@@ -26,12 +29,13 @@ ghost use Rattle.lists.specs.Numbers.{byteAt, bigBytes};
 ghost use Rattle.answers.specs.Numbers.{sixNumbers};
 ghost use Rattle.answers.specs.Verdicts.{answerOf, outputAfter};
 ghost use Rattle.words.specs.Bits.{firstBit};
-ghost use Rattle.sides.specs.Side.{systemIn, enteredFrom};
-ghost use Rattle.sides.specs.Built.{Linked};
+ghost use Rattle.sides.specs.Side.{systemIn, silentFrom};
+ghost use Rattle.sides.specs.Built.{PlainSide};
 ghost use Rattle.sides.specs.Views.{viewIn};
 ghost use Rattle.checker.specs.Judge.{judgeAnswer};
 ghost use Rattle.path_matcher.specs.Following.{entryBytes, blockBytes, wrongPath, followAnswer, followStates, followBlocks};
-ghost use Rattle.path_matcher.specs.OnSides.{stepBetween, ranksIn, givenIn, matchedIn, verdictIn, AllMet, StartsAt, StandsAt, nextMove};
+ghost use Rattle.path_matcher.specs.OnSides.{stepBetween, ranksIn, givenIn, matchedIn, verdictIn, PlainTables};
+ghost use Rattle.path_matcher.specs.OnSides.{AllMet, StartsAt, StandsAt, nextMove};
 
 // The most states that are given, and the most that are written: as many as a table has in each block.
 const MOST_GIVEN: usize = 256;
@@ -86,7 +90,7 @@ fn step_after(side: &Side, path: &[u8], i: usize) -> usize
 
 // Whether the bytes are no path of the side's table, which begins anywhere and has from 1 to 256 states.
 fn is_no_path(side: &Side, path: &[u8]) -> bool
-    requires { ⌜ Linked (now side) ⌝ }
+    requires { ⌜ PlainSide (now side) ⌝ }
     ensures { λ r. ⌜ r ≡ wrongPath 0 (systemIn (now (side .entry))) (now (path .entry)) ⌝ }
 {
     let count = path.len();
@@ -103,7 +107,7 @@ fn is_no_path(side: &Side, path: &[u8]) -> bool
     }
     let mut i: usize = 1;
     while i < count {
-        let after = entered(side, s);
+        let after = silent(side, s);
         s = byte(path, i);
         if !after.has(s) {
             return true;
@@ -144,9 +148,9 @@ fn put_entry(state: usize, block: usize, output: &mut [u8], i: usize)
 
 // The smallest state that a step from s enters, and 64 where no step leaves s.
 fn smallest_after(side: &Side, s: usize) -> usize
-    ensures { λ r. ⌜ r ≡ firstBit (enteredFrom (now (side .entry)) s) ⌝ }
+    ensures { λ r. ⌜ r ≡ firstBit (silentFrom (now (side .entry)) s) ⌝ }
 {
-    let states = entered(side, s);
+    let states = silent(side, s);
     states.first()
 }
 
@@ -323,6 +327,7 @@ fn follow_accepted(
     states: &mut [u8],
     blocks: &mut [u8],
 ) -> Answer
+    requires { ⌜ PlainTables (now left) (now right) ⌝ }
     requires { ⌜ judgeAnswer (now left) (now right) (now certificate) .code ≡ 0 ⌝ }
     ensures value { λ r. ⌜ r ≡ followAnswer (now (left .entry)) (now (right .entry)) (now (certificate .entry)) side start (now (path .entry))
         (now (states .entry)) (now (blocks .entry)) ⌝ }
@@ -382,6 +387,10 @@ pub fn follow(
     ensures blocks { λ _. ⌜ now (blocks .exit) ≡ followBlocks (now (left .entry)) (now (right .entry)) (now (certificate .entry)) side start
         (now (path .entry)) (now (states .entry)) (now (blocks .entry)) ⌝ }
 {
+    let tables = read_plain_tables(left, right);
+    let TablesRead::Good(_) = tables else {
+        return tables_answer(tables);
+    };
     let answer = judge(left, right, certificate);
     if answer.code != 0 {
         return answer;

@@ -13,7 +13,7 @@ use Rattle.answers.specs.declared.Answer.{Answer}
 use Rattle.answers.specs.declared.Checked.{Checked}
 use Rattle.answers.specs.declared.Checked.the-variants.{Passed, Refused}
 use Rattle.answers.proofs.CheckedLaws.{was-passed, was-refused}
-use Rattle.inputs.specs.declared.Heads.{Heads}
+use Rattle.table_pairs.specs.declared.Heads.{Heads}
 use Rattle.inputs.specs.Inputs.{readVerdict}
 use Rattle.ranking.specs.declared.Slip.{Slip}
 use Rattle.ranking.specs.declared.Enquiry.{Enquiry}

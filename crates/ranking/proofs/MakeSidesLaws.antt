@@ -36,7 +36,7 @@ use Rattle.examination.specs.OnSides.{examinedIn}
 use Rattle.examination.proofs.MeasuredLaws.{examination-is}
 use Rattle.inputs.specs.Inputs.{InputsRead, readVerdict}
 use Rattle.inputs.proofs.InputLaws.{inputs-read}
-use Rattle.inputs.specs.declared.Heads.{Heads}
+use Rattle.table_pairs.specs.declared.Heads.{Heads}
 use Rattle.ranking.specs.declared.Slip.{Slip}
 use Rattle.ranking.specs.Make.{examinedVerdict, lengthFor, fileFor}
 use Rattle.ranking.specs.Enquire.{slipFor}

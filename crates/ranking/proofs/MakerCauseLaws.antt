@@ -78,19 +78,20 @@ module _ (left right relation : List ℕ) where
       (numbered-first examinationNumber examination a
       (examination-numbers examinationNumber tt (viewOf left right relation) (startsNamed left right)) first)
 
-  module _ (f : ℕ → ℕ → Bool) (of-left : T (allows f 0 tableNumbers)) (of-right : T (allows f 1 tableNumbers)) (of-relation : T (allows f 2 (20 ∷ 15 ∷ [])))
+  module _ (f : ℕ → ℕ → Bool) (of-left : T (allows f 0 tableNumbers)) (of-right : T (allows f 1 tableNumbers)) (of-kind : T (f 30 1))
+      (of-relation : T (allows f 2 (20 ∷ 15 ∷ [])))
       (of-examination : T (allows f 2 (16 ∷ 17 ∷ 22 ∷ 23 ∷ []))) where
     pub numbers-with : (between : List Cause) → Numbered f between → Numbered f (causesWith between left right relation)
     numbers-with between n =
-        numbered-append f (inputCauses left right relation) (between ++ examination) (input-numbers left right relation f of-left of-right of-relation)
+        numbered-append f (inputCauses left right relation) (between ++ examination) (input-numbers left right relation f of-left of-right of-kind of-relation)
         (numbered-append f between examination n (examination-numbers f of-examination (viewOf left right relation) (startsNamed left right)))
 
   pub enquiry-numbers : Numbered enquiryNumber (enquiryCauses left right relation)
-  enquiry-numbers = numbers-with enquiryNumber tt tt tt tt [] tt
+  enquiry-numbers = numbers-with enquiryNumber tt tt tt tt tt [] tt
 
   pub maker-numbers : (output : List ℕ) → Numbered makerNumber (makerCauses left right relation output)
-  maker-numbers output = numbers-with makerNumber tt tt tt tt (roomCauses (lengthFor left right) output) (tt, tt)
+  maker-numbers output = numbers-with makerNumber tt tt tt tt tt (roomCauses (lengthFor left right) output) (tt, tt)
 
   pub commit-numbers : (slip : Slip) (output : List ℕ) → Numbered commitNumber (commitCauses left right relation slip output)
   commit-numbers slip output =
-      numbers-with commitNumber tt tt tt tt (slipCauses left right relation slip ++ roomCauses (lengthFor left right) output) (tt, (tt, tt))
+      numbers-with commitNumber tt tt tt tt tt (slipCauses left right relation slip ++ roomCauses (lengthFor left right) output) (tt, (tt, tt))

@@ -1,5 +1,5 @@
 -- The maker's answer and output for any byte strings and any output (document 01, The maker): the first cause that applies of the left table's, the
--- right table's, 20, 15, 21, 16, 17 and 22 in judging order, and 23; or the length L. Where it succeeds the file stands at the front of the
+-- right table's, 30, 20, 15, 21, 16, 17 and 22 in judging order, and 23; or the length L. Where it succeeds the file stands at the front of the
 -- output and the bytes after L stay; otherwise the output is as it was.
 use Prim.Native.Nat.{ℕ}
 use mathlib.Core.List.{List}

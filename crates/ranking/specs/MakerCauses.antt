@@ -1,5 +1,5 @@
--- The causes that turn a relation away from the maker, in document 01's order: left table, right table (1 to 9, or 24 in place of
--- 9), 20, 15, 21, 16, then pairs and steps in judging order for 17 and 22, then 23, left side first. The enquiry's are these without 21, and the commit's
+-- The causes that turn a relation away from the maker, in the documents' order: left table, right table (1 to 9, or 24 in place of
+-- 9), 30, 20, 15, 21, 16, then pairs and steps in judging order for 17 and 22, then 23, left side first. The enquiry's are these without 21, and the commit's
 -- have 29 before it (document 02, Ask 8).
 use Prim.Native.Nat.{ℕ}
 use mathlib.Core.Path.{_≡_}

@@ -5,8 +5,6 @@ use answers::Checked;
 use certificates::Sizes;
 use examination::examine;
 use files::fill;
-use inputs::Heads;
-use inputs::Inputs;
 use inputs::read;
 use lengths::measure;
 use rank_grids::match_ranks;
@@ -15,6 +13,8 @@ use relation_words::column_words;
 use relation_words::row_words;
 use sides::Side;
 use sides::side_of;
+use table_pairs::Heads;
+use table_pairs::TablesRead;
 use tables::Head;
 use tables::labels;
 use tables::steps;
@@ -200,8 +200,8 @@ pub fn make(left: &[u8], right: &[u8], relation: &[u8], output: &mut [u8]) -> An
 {
     let inputs = read(left, right, relation);
     match inputs {
-        Inputs::Refused(answer) => answer,
-        Inputs::Read(heads) => make_read(left, right, relation, heads, output),
+        TablesRead::Refused(answer) => answer,
+        TablesRead::Good(heads) => make_read(left, right, relation, heads, output),
     }
 }
 
@@ -234,11 +234,11 @@ pub fn enquire(left: &[u8], right: &[u8], relation: &[u8]) -> Enquiry
 {
     let inputs = read(left, right, relation);
     match inputs {
-        Inputs::Refused(answer) => Enquiry {
+        TablesRead::Refused(answer) => Enquiry {
             answer,
             slip: blank_slip(),
         },
-        Inputs::Read(heads) => enquire_read(left, right, relation, heads),
+        TablesRead::Good(heads) => enquire_read(left, right, relation, heads),
     }
 }
 
@@ -251,8 +251,8 @@ pub fn commit(left: &[u8], right: &[u8], relation: &[u8], slip: Slip, output: &m
 {
     let inputs = read(left, right, relation);
     match inputs {
-        Inputs::Refused(answer) => answer,
-        Inputs::Read(heads) => {
+        TablesRead::Refused(answer) => answer,
+        TablesRead::Good(heads) => {
             let due = slip_for(left, right, relation, heads);
             if same_slip(slip, due) {
                 make_read(left, right, relation, heads, output)

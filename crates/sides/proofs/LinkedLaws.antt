@@ -1,12 +1,12 @@
 -- Where the ends of all steps are below 64, the links of a side lead along the steps from each state in table order, and it knows the states that these
 -- enter. Assumes nothing.
-use Prim.Native.Nat.{ℕ, zero, suc, _-_, _≤_, _<_}
+use Prim.Native.Nat.{ℕ, zero, suc, _-_, _^_, _≤_, _<_}
 use mathlib.Core.Path.{_≡_, refl, sym, ap, _∙_, subst}
 use mathlib.Core.Logic.{_⊎_, inl, inr, ⊎-elim}
 use mathlib.Core.Bool.{false, cond, _&&_}
 use mathlib.Core.List.{List, [], _∷_}
 use native.Mathlib.Omega.{arith}
-use native.Mathlib.Decide.{decLt}
+use native.Mathlib.Decide.{ℕ-discrete, decLt}
 use lib.Dec.{eqb, eqb→eq}
 use borrow.Author.Tests.{lt-ltb, le-ltb, le-leb, eq-eqb, ne-eqb}
 use Rattle.lists.specs.Below.{anyBelow}
@@ -16,14 +16,15 @@ use Rattle.lists.proofs.JoinLaws.{joinFrom, from-start, from-next, from-none, j
 use Rattle.words.specs.Bits.{hasBit}
 use Rattle.words.proofs.BitLaws.{has-empty, has-high}
 use Rattle.bisimulation.specs.Systems.{System, stepsFrom}
-use Rattle.sides.specs.Side.{cellAt, enteredPart, firstPart, nextPart, systemIn, firstStep, nextStep, linkedFrom, stepsIn}
-use Rattle.sides.specs.Built.{NextFrom, LinkedFrom, Linked}
+use Rattle.sides.specs.Side.{cellAt, silentPart, firstPart, nextPart, systemIn, keyAt, firstStep, nextStep, linkedFrom, stepsIn, groupAlong, enteredBy}
+use Rattle.sides.specs.Built.{NextFrom, LinkedFrom, Linked, goesBy}
 use Rattle.sides.proofs.StoreLaws.{cell-past}
 use Rattle.sides.proofs.WalkLaws.{next-later, walk-next, walk-end}
+use Rattle.sides.proofs.GroupLaws.{entered-known, entered-small}
 
 module _ (side : List ℕ) (from< : (j : ℕ) → j < systemIn side .steps → systemIn side .from j < 64)
     (to< : (j : ℕ) → j < systemIn side .steps → systemIn side .to j < 64)
-    (w : LinkedFrom (systemIn side) 0 side) where
+    (w : LinkedFrom (systemIn side) (keyAt side) 0 side) where
   abbrev S : System
   S = systemIn side
 
@@ -66,23 +67,41 @@ module _ (side : List ℕ) (from< : (j : ℕ) → j < systemIn side .steps → s
         ∙ sym (join-none (S .steps) (here s) (λ j l. rw (ne-eqb (S .from j) s (λ e. let f = from< j l in omega arith)))))
   ]
 
-  -- a state that no step enters from s, since one of them is 64 or more
-  none-there : (s u : ℕ) → 64 ≤ s ⊎ 64 ≤ u → anyBelow (S .steps) (λ k. eqb (S .from k) s && eqb (S .to k) u) ≡ false
-  none-there s u b = not-T-false _ (any-none _ _ (λ k l h.
-      let e : S .from k ≡ s = eqb→eq _ _ (and-l (eqb (S .from k) s) (eqb (S .to k) u) h) in
-      let g : S .to k ≡ u = eqb→eq _ _ (and-r (eqb (S .from k) s) (eqb (S .to k) u) h) in
+  -- no step goes from s to u, since one of them is 64 or more
+  none-there : (s key u : ℕ) → 64 ≤ s ⊎ 64 ≤ u → anyBelow (S .steps) (goesBy S (keyAt side) s key u) ≡ false
+  none-there s key u b = not-T-false _ (any-none _ _ (λ k l h.
+      let e : S .from k ≡ s = eqb→eq _ _ (and-l (eqb (S .from k) s) _ h) in
+      let g : S .to k ≡ u = eqb→eq _ _ (and-r (eqb key (keyAt side k)) (eqb (S .to k) u) (and-r (eqb (S .from k) s) _ h)) in
       let f = from< k l in
       let t = to< k l in
       ⊎-elim (λ p. omega arith) (λ p. omega arith) b))
 
-  entered-are : (s u : ℕ) → hasBit (cellAt enteredPart side s) u ≡ anyBelow (S .steps) (λ k. eqb (S .from k) s && eqb (S .to k) u)
-  entered-are s u = elim (decLt s 64) [
-    | yes h ↦ elim (decLt u 64) [
-      | yes b ↦ w .entered s h u b ∙ any-cong _ _ _ (λ k l. rw (le-leb 0 k (omega arith)))
-      | no b ↦ has-high (cellAt enteredPart side s) 64 u (w .entered< s) (omega arith) ∙ sym (none-there s u (inr (omega arith)))
-    ]
-    | no h ↦ ap (λ (x : ℕ). hasBit x u) (cell-past enteredPart side s (omega arith)) ∙ has-empty u ∙ sym (none-there s u (inl (omega arith)))
+  -- a state of 64 or more has no step
+  past-empty : (s key : ℕ) → 64 ≤ s → enteredBy side s key ≡ 0
+  unfolding enteredBy stepsIn firstStep groupAlong
+  past-empty s key h = elim (ℕ-discrete key 0) [
+    | yes e ↦ rw (eq-eqb key 0 e) (cell-past silentPart side s h)
+    | no e ↦ rw (ne-eqb key 0 e, le-ltb s 64 h, walk-end side 256 (omega arith))
   ]
 
+  entered-are : (s key u : ℕ) → hasBit (enteredBy side s key) u ≡ anyBelow (S .steps) (goesBy S (keyAt side) s key u)
+  entered-are s key u = elim (decLt s 64) [
+    | yes h ↦ elim (decLt u 64) [
+      | yes b ↦ entered-known S (keyAt side) side 0 few (λ j. refl) w s h key u b ∙ any-cong _ _ _ (λ k l. rw (le-leb 0 k (omega arith)))
+      | no b ↦ has-high (enteredBy side s key) 64 u (small s key) (omega arith) ∙ sym (none-there s key u (inr (omega arith)))
+    ]
+    | no h ↦ ap (λ (x : ℕ). hasBit x u) (past-empty s key (omega arith)) ∙ has-empty u ∙ sym (none-there s key u (inl (omega arith)))
+  ]
+    where
+      small : (s key : ℕ) → enteredBy side s key < 2 ^ 64
+      small = entered-small S (keyAt side) side 0 few (λ j. refl) w
+
   pub linked : Linked side
-  linked = record { from< = from<; to< = to<; steps-are = steps-are; entered-are = entered-are; entered< = w .entered< }
+  linked =
+      record {
+        from< = from<;
+        to< = to<;
+        steps-are = steps-are;
+        entered-are = entered-are;
+        entered< = entered-small S (keyAt side) side 0 few (λ j. refl) w;
+      }

@@ -11,21 +11,24 @@ use lib.ListN.{length, getD}
 use Rattle.lists.proofs.FillLaws.{getD-past}
 use Rattle.lists.proofs.NumberLaws.{big-past}
 use Rattle.words.specs.Bits.{hasBit, firstBit}
-use Rattle.bisimulation.specs.Systems.{System, View, Plain, flip}
+use Rattle.bisimulation.specs.Systems.{System, View, flip}
 use Rattle.tables.specs.declared.Format.{Format}
 use Rattle.tables.specs.declared.Head.{Head}
-use Rattle.tables.specs.Table.{layoutOf, formatIn, layoutIn, statesOf, stepsOf, startWord, startOf, labelsPart, stepsPart, labelOf, fromOf, toOf, fromIn, toIn}
+use Rattle.tables.specs.Table.{layoutOf, formatIn, layoutIn, statesOf, stepsOf, startWord, startOf, labelsPart, stepsPart, labelOf, fromOf, toOf, keyOf}
+use Rattle.tables.specs.Table.{fromIn, toIn, keyIn}
 use Rattle.tables.specs.Model.{systemOf}
 use Rattle.table_reader.specs.declared.TableRead.the-variants.{Good}
 use Rattle.table_reader.specs.TableReading.{readTable}
 use Rattle.table_reader.proofs.TableLaws.{table-ok, labels-length, steps-length, table-formed, start-first}
 use Rattle.certificates.specs.CertificateModel.{AreBytes, viewOf}
 use Rattle.relation_words.specs.Relation.{rowWords, columnWords}
-use Rattle.sides.specs.Side.{cellAt, relatedPart, labelPart, fromPart, toPart, systemIn, startIn, startWordIn, relatedTo}
+use Rattle.sides.specs.Side.{cellAt, relatedPart, labelPart, fromPart, toPart, keyPart, systemIn, keyAt, startIn, startWordIn, relatedTo}
 use Rattle.sides.specs.Built.{SideOf, Linked}
 use Rattle.sides.specs.Views.{viewIn}
 use Rattle.relation_words.proofs.RelationLaws.{rows-length, rows-related, columns-length, columns-flipped}
 use Rattle.sides.proofs.StoreLaws.{filled}
+use Rattle.sides.proofs.BuildLaws.{cond-zero}
+use Rattle.sides.proofs.LinkLaws.{eqb-swap}
 use Rattle.sides.proofs.LinkedLaws.{linked}
 
 -- ---- the limits
@@ -68,12 +71,28 @@ module _ (s : List ℕ) {h : Head} {words side : List ℕ} (good : readTable s �
   to-are j =
       filled toPart (rw (table-ok s good .format-is) at (a .to-are)) j (λ z. let l = steps-past j z in getD-past (stepsPart s) _ (omega arith))
 
+  pub keys-are : (j : ℕ) → keyAt side j ≡ keyIn s j
+  unfolding keyOf
+  keys-are j =
+      filled keyPart (rw (table-ok s good .format-is) at (a .keys-are)) j
+      (λ z. cond-zero (layoutIn s .keyed) (let l = steps-past j z in getD-past (stepsPart s) _ (omega arith)))
+
   -- the system that the side holds is the one that the bytes give
   pub system-is : systemIn side ≡ systemOf s
   unfolding systemOf
   system-is =
       let o = table-ok s good in
-      rw (states-are, a .steps-is, steps-are, a .initial-is, o .initial-is, fun-ext labels-are, fun-ext from-are, fun-ext to-are)
+      rw (
+        states-are,
+        a .steps-is,
+        steps-are,
+        a .initial-is,
+        o .initial-is,
+        fun-ext labels-are,
+        fun-ext from-are,
+        fun-ext to-are,
+        fun-ext keys-are,
+      )
 
   below : {x : ℕ} → x < systemOf s .states → x < 64
   unfolding systemOf
@@ -107,13 +126,9 @@ module _ (s : List ℕ) {h : Head} {words side : List ℕ} (good : readTable s �
 
 -- ---- two sides
 
--- every step is silent and serves every other
-pub plain-view : (ours theirs : List ℕ) → Plain (viewIn ours theirs)
-plain-view ours theirs = record { silent = λ j. tt; silent′ = λ k. tt; serves = λ j k. tt }
-
--- Two systems and their relation; every step serves every other.
-abbrev viewWith : System → System → (ℕ → ℕ → Bool) → View
-viewWith S S′ related = record { own = S; other = S′; related = related; serves = λ j k. true }
+-- Two systems, their relation, and which steps serve which.
+abbrev viewWith : System → System → (related serves : ℕ → ℕ → Bool) → View
+viewWith S S′ related serves = record { own = S; other = S′; related = related; serves = serves }
 
 module _ (left right rows : List ℕ) {h k : Head} {ours theirs : List ℕ} (gl : readTable left ≡ Good h) (gr : readTable right ≡ Good k) (bytes : AreBytes rows)
     (a : SideOf h (labelsPart left) (stepsPart left) (rowWords rows (statesOf left)) ours)
@@ -124,9 +139,11 @@ module _ (left right rows : List ℕ) {h k : Head} {ours theirs : List ℕ} (gl 
   view-is =
       let few = table-ok left gl .states-le in
       let word = related-are left gl a (rows-length rows (statesOf left)) in
-      ap₂ (λ (x y : System). viewWith x y (λ s t. hasBit (relatedTo ours s) t)) (system-is left gl a) (system-is right gr b)
-      ∙ ap (viewWith (systemOf left) (systemOf right))
+      ap₂ (λ (x y : System). viewWith x y (λ s t. hasBit (relatedTo ours s) t) (λ j k. eqb (keyAt ours j) (keyAt theirs k)))
+      (system-is left gl a) (system-is right gr b)
+      ∙ ap₂ (viewWith (systemOf left) (systemOf right))
       (fun-ext (λ s. fun-ext (λ t. ap (λ (w : ℕ). hasBit w t) (word s) ∙ rows-related rows (statesOf left) few s t)))
+      (fun-ext (λ j. fun-ext (λ k. ap₂ eqb (keys-are left gl a j) (keys-are right gr b k))))
 
   -- and from the right
   pub view-flipped : viewIn theirs ours ≡ flip (viewOf left right rows)
@@ -134,6 +151,8 @@ module _ (left right rows : List ℕ) {h k : Head} {ours theirs : List ℕ} (gl 
   view-flipped =
       let few = table-ok left gl .states-le in
       let word = related-are right gr b (columns-length (rowWords rows (statesOf left))) in
-      ap₂ (λ (x y : System). viewWith x y (λ t s. hasBit (relatedTo theirs t) s)) (system-is right gr b) (system-is left gl a)
-      ∙ ap (viewWith (systemOf right) (systemOf left))
+      ap₂ (λ (x y : System). viewWith x y (λ t s. hasBit (relatedTo theirs t) s) (λ k j. eqb (keyAt theirs k) (keyAt ours j)))
+      (system-is right gr b) (system-is left gl a)
+      ∙ ap₂ (viewWith (systemOf right) (systemOf left))
       (fun-ext (λ t. fun-ext (λ s. ap (λ (w : ℕ). hasBit w s) (word t) ∙ columns-flipped rows (statesOf left) few bytes t s)))
+      (fun-ext (λ k. fun-ext (λ j. ap₂ eqb (keys-are right gr b k) (keys-are left gl a j) ∙ eqb-swap (keyIn right k) (keyIn left j))))

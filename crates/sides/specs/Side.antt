@@ -1,7 +1,7 @@
--- One side of two tables as words: the table's header, labels and steps, the states related to each own state, and the steps linked by the state that
+-- One side of two tables as words: the table's header, labels, steps and keys, the states related to each own state, and the steps linked by the state that
 -- they leave. Everything is read off by a total accessor.
 use Prim.Native.Nat.{ℕ, zero, suc, _+_, min}
-use mathlib.Core.Bool.{Bool, true, cond}
+use mathlib.Core.Bool.{Bool, cond}
 use mathlib.Core.List.{List, [], _∷_}
 use lib.Dec.{ltb, eqb}
 use lib.ListN.{getD}
@@ -24,12 +24,12 @@ cellAt r side i = cond (ltb i (r .size)) (getD side (r .base + i) 0) 0
 abbrev pub headPart : Region
 headPart = record { base = 0; size = maxStates }
 
--- For each state the states related to it, those that its steps enter, the first step from it, and its label.
+-- For each state the states related to it, those that its silent steps enter, the first step from it, and its label.
 abbrev pub relatedPart : Region
 relatedPart = record { base = 64; size = maxStates }
 
-abbrev pub enteredPart : Region
-enteredPart = record { base = 128; size = maxStates }
+abbrev pub silentPart : Region
+silentPart = record { base = 128; size = maxStates }
 
 abbrev pub firstPart : Region
 firstPart = record { base = 192; size = maxStates }
@@ -37,7 +37,8 @@ firstPart = record { base = 192; size = maxStates }
 abbrev pub labelPart : Region
 labelPart = record { base = 256; size = maxStates }
 
--- For each step the next step from the same state, and the states that it leaves and enters.
+-- For each step the next step from the same state, the states that it leaves and enters, its key, and the states that it and the later steps with its key from
+-- the same state enter.
 abbrev pub nextPart : Region
 nextPart = record { base = 320; size = maxSteps }
 
@@ -47,9 +48,19 @@ fromPart = record { base = 576; size = maxSteps }
 abbrev pub toPart : Region
 toPart = record { base = 832; size = maxSteps }
 
+abbrev pub keyPart : Region
+keyPart = record { base = 1088; size = maxSteps }
+
+abbrev pub groupPart : Region
+groupPart = record { base = 1344; size = maxSteps }
+
 -- ---- what is read off
 
--- The system that the words hold: a plain table, every step of which is silent. Numbers above the limits count as the limits.
+-- The key of step j.
+abbrev pub keyAt : List ℕ → ℕ → ℕ
+keyAt = cellAt keyPart
+
+-- The system that the words hold; a step is silent where its key is 0. Numbers above the limits count as the limits.
 abbrev pub systemIn : List ℕ → System
 systemIn side =
     record {
@@ -59,7 +70,7 @@ systemIn side =
       label = cellAt labelPart side;
       from = cellAt fromPart side;
       to = cellAt toPart side;
-      silent = λ j. true;
+      silent = λ j. eqb (keyAt side j) 0;
     }
 
 -- The start: the smallest initial state, and 64 where there is none.
@@ -70,12 +81,12 @@ startIn side = firstBit (cellAt headPart side 2)
 abbrev pub startWordIn : List ℕ → Bool
 startWordIn side = eqb (cellAt headPart side 3) 1
 
--- The words of the states related to s, and of the states that steps from s enter.
+-- The words of the states related to s, and of the states that silent steps from s enter.
 abbrev pub relatedTo : List ℕ → ℕ → ℕ
 relatedTo = cellAt relatedPart
 
-abbrev pub enteredFrom : List ℕ → ℕ → ℕ
-enteredFrom = cellAt enteredPart
+abbrev pub silentFrom : List ℕ → ℕ → ℕ
+silentFrom = cellAt silentPart
 
 -- The first step from s, and 256 where there is none.
 unfoldable pub firstStep : List ℕ → ℕ → ℕ
@@ -96,3 +107,12 @@ linkedFrom side (suc k) j = cond (ltb j maxSteps) (j ∷ linkedFrom side k (next
 -- From the first step from s on: in a side of a table these are the steps from s in table order. No more than 256 can be met, since links rise.
 unfoldable pub stepsIn : List ℕ → ℕ → List ℕ
 stepsIn side s = linkedFrom side maxSteps (firstStep side s)
+
+-- The word of the first of the steps that has this key, and the empty word where none has it.
+unfoldable pub groupAlong : List ℕ → ℕ → List ℕ → ℕ
+groupAlong side key [] = 0
+groupAlong side key (j ∷ js) = cond (eqb (keyAt side j) key) (cellAt groupPart side j) (groupAlong side key js)
+
+-- The word of the states that steps with this key from s enter, found along the links; for silent steps it stands by itself.
+unfoldable pub enteredBy : List ℕ → ℕ → ℕ → ℕ
+enteredBy side s key = cond (eqb key 0) (silentFrom side s) (groupAlong side key (stepsIn side s))

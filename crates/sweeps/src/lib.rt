@@ -3,7 +3,8 @@
 use answers::Answer;
 use obligations::Place;
 use obligations::Run;
-use obligations::obligation_at;
+use obligations::outcome_by_ranks;
+use obligations::serving_state;
 use outcomes::Clause;
 use outcomes::Outcome;
 use sides::Side;
@@ -14,9 +15,10 @@ use sides::related;
 use sides::states;
 use tables::Head;
 ghost use mathlib.Core.Path.{_≡_};
+ghost use mathlib.Core.List.{[], _∷_};
 ghost use Prim.Native.Nat.{_^_, _<_};
 ghost use Rattle.sweeps.specs.Tallies.{none, addTo, total};
-ghost use Rattle.sweeps.specs.SideVerdicts.{progress, swept, pairVerdicts, rowVerdicts, allVerdicts};
+ghost use Rattle.sweeps.specs.SideVerdicts.{progress, stepIn, swept, pairVerdicts, rowVerdicts, allVerdicts};
 
 // How many obligations each clause has met.
 pub struct Tally {
@@ -56,6 +58,30 @@ impl Tally {
     }
 }
 
+// The obligation of our step j at the place: counted by the clause that meets it, or the answer that refuses it. Most are met by 2a, which looks at no rank.
+fn check_step(
+    ours: &Side,
+    theirs: &Side,
+    certificate: &[u8],
+    run: Run,
+    place: Place,
+    j: usize,
+    tally: Tally,
+) -> Progress
+    requires { ⌜ total tally < 2 ^ 32 ⌝ }
+    ensures { λ r. ⌜ r ≡ progress (stepIn (now (ours .entry)) (now (theirs .entry)) (now (certificate .entry)) run place j ∷ []) tally ⌝ }
+{
+    let t = place.other;
+    if serving_state(ours, theirs, j, t) < Head::MAX_STATES {
+        return Progress::On(tally.add(Clause::Step));
+    }
+    let outcome = outcome_by_ranks(ours, theirs, certificate, run, j, t);
+    match outcome {
+        Outcome::Met(clause, _) => Progress::On(tally.add(clause)),
+        Outcome::Failed(failure) => Progress::Stop(place.step_answer(failure.number(), j)),
+    }
+}
+
 // The obligations of our steps from the place's own state, in the order in which the links lead along them.
 fn sweep(
     ours: &Side,
@@ -68,21 +94,14 @@ fn sweep(
     requires { ⌜ total tally < 2 ^ 31 ⌝ }
     ensures { λ r. ⌜ r ≡ progress (swept (now (ours .entry)) (now (theirs .entry)) (now (certificate .entry)) run place) tally ⌝ }
 {
-    let s = place.own;
-    let t = place.other;
     let mut met = tally;
-    let mut j = first(ours, s);
+    let mut j = first(ours, place.own);
     while j < Head::MAX_STEPS {
-        let outcome = obligation_at(ours, theirs, certificate, run, j, t);
-        match outcome {
-            Outcome::Met(clause, _) => {
-                met = met.add(clause);
-            }
-            Outcome::Failed(failure) => {
-                let code = failure.number();
-                return Progress::Stop(place.step_answer(code, j));
-            }
-        }
+        let end = check_step(ours, theirs, certificate, run, place, j, met);
+        let Progress::On(more) = end else {
+            return end;
+        };
+        met = more;
         let later = next(ours, j);
         if later <= j {
             return Progress::On(met);

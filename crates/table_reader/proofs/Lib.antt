@@ -4,4 +4,5 @@ pub mod TestLaws
 pub mod OrderLaws
 pub mod TableCauseLaws
 pub mod TableLaws
+pub mod PlainLaws
 pub mod StepNumberLaws

@@ -58,6 +58,7 @@ use Rattle.table_reader.specs.TableCauses.{
 }
 use Rattle.table_reader.proofs.TestLaws.{
   magic-decides,
+  known-decides,
   version-decides,
   states-decides,
   starts-decides,
@@ -80,7 +81,7 @@ module _ (file : ℕ) (s : List ℕ) where
   unfolding readHeader readSizes readLength
   header-decided =
       decided-test on (Refused Short) _ (ltb-decides (length s) 9) refl
-      (decided-test on (Refused Magic) _ (not-decides (magic-decides 0x54 s)) refl
+      (decided-test on (Refused Magic) _ (not-decides (known-decides s)) refl
       (decided-test on (Refused Version) _ (not-decides (version-decides s)) refl
       (decided-test on (Refused Short) _ (ltb-decides (length s) (layoutIn s .header)) refl
       (decided-test on (Refused States) _ (not-decides (states-decides (statesOf s))) refl

@@ -20,7 +20,7 @@ use Rattle.words.proofs.BitLaws.{has-add-below, has-empty, from-none}
 use Rattle.bisimulation.specs.Systems.{NoTwice}
 use Rattle.tables.specs.declared.Head.{Head}
 use Rattle.table_reader.specs.declared.TableRead.the-variants.{Good}
-use Rattle.tables.specs.Table.{formatIn, layoutIn, statesOf, startOf, startsOf, startWord, initialOf, stepsOf, stepsAt, tableLength, labelsPart, stepsPart}
+use Rattle.tables.specs.Table.{keyed, formatIn, layoutIn, statesOf, startOf, startsOf, startWord, initialOf, stepsOf, stepsAt, tableLength, labelsPart, stepsPart}
 use Rattle.table_reader.specs.TableReading.{headOf, readTable}
 use Rattle.table_reader.specs.TableCauses.{StartWord, WrongStarts, EndOutside, EqualsEarlier, headerCauses, endCauses, orderCauses}
 use Rattle.answers.specs.Numbers.{sixNumbers}
@@ -93,11 +93,11 @@ starts-small : (s : List ℕ) → startsOf s < 2 ^ 64
 unfolding startsOf
 starts-small s = mod-lt (bigEndian s 6 8) (zero-lt-suc 18446744073709551615)
 
--- The system is well formed; where the file has no start word, the start is its one initial state.
+-- The system is well formed; without keys no two steps have the same ends; and where the file has no start word, the start is its one initial state.
 pub record TableFormed (s : List ℕ) : Type 0 where
   pub from< : (j : ℕ) → j < systemOf s .steps → systemOf s .from j < systemOf s .states
   pub to< : (j : ℕ) → j < systemOf s .steps → systemOf s .to j < systemOf s .states
-  pub no-twice : NoTwice (systemOf s)
+  pub no-twice : keyed s ≡ false → NoTwice (systemOf s)
   pub initial< : (t : ℕ) → T (systemOf s .initial t) → t < systemOf s .states
   pub one-initial : startWord s ≡ false → (t : ℕ) → systemOf s .initial t ≡ eqb t (startOf s)
 
@@ -107,11 +107,11 @@ table-formed s {h} e =
     record {
       from< = λ j l. elim (decLt (systemOf s .from j) (statesOf s)) [ yes p ↦ p | no q ↦ absurd (inside j l (inl (omega arith))) ];
       to< = λ j l. elim (decLt (systemOf s .to j) (statesOf s)) [ yes p ↦ p | no q ↦ absurd (inside j l (inr (omega arith))) ];
-      no-twice = λ i j k l p q.
+      no-twice = λ plain i j k l p q.
           elim (decLt i j) [
-            | yes a ↦ absurd (once j l (i, a, p, q))
+            | yes a ↦ absurd (once plain j l (i, a, p, q))
             | no a ↦ elim (decLt j i) [
-              | yes b ↦ absurd (once i k (j, b, sym p, sym q))
+              | yes b ↦ absurd (once plain i k (j, b, sym p, sym q))
               | no b ↦ omega arith
             ]
           ];
@@ -122,7 +122,7 @@ table-formed s {h} e =
     inside : (j : ℕ) → j < stepsOf s → ¬ EndOutside s j
     inside = below-none (stepsOf s) (EndOutside s) (sixNumbers 8 0) (steps-none s e .0)
 
-    once : (j : ℕ) → j < stepsOf s → ¬ EqualsEarlier s j
+    once : keyed s ≡ false → (j : ℕ) → j < stepsOf s → ¬ EqualsEarlier s j
     once = steps-once s (steps-none s e .1)
 
     ok : HeadOk s h

@@ -8,8 +8,8 @@ use Rattle.lists.specs.Below.{firstBelow}
 use Rattle.words.specs.Bits.{hasBit, hasFrom, HasFrom}
 use Rattle.lists.proofs.BelowLaws.{first-least}
 use Rattle.tables.specs.declared.Format.{Format}
-use Rattle.tables.specs.Table.{lastVersion, magicFits, versionOf, formatIn, stepsPart, fromOf, toOf}
-use Rattle.table_reader.specs.TableReading.{versionFits, statesFit, wrongStarts}
+use Rattle.tables.specs.Table.{lastVersion, magicFits, versionOf, formatIn, stepsPart, fromOf, toOf, keyOf}
+use Rattle.table_reader.specs.TableReading.{magicKnown, versionFits, statesFit, wrongStarts}
 use Rattle.table_reader.specs.TableReading.{endsOutside, sameStep, doubled, greater, notGreater}
 use Rattle.table_reader.specs.EndsSeen.{EndsBelow}
 use Rattle.table_reader.specs.TableCauses.{MagicFits, StatesFit, WrongStarts, NotGreater}
@@ -32,7 +32,11 @@ magic-decides third s =
     decides-as (and-decides (and-decides (eqb-decides _ _) (eqb-decides _ _)) (eqb-decides _ _))
     (λ p. (p .0 .0, p .0 .1, p .1)) (λ p. ((p .0, p .1), p .2))
 
-pub version-decides : (s : List ℕ) → Decides (versionFits s) ((1 ≤ versionOf s) × (versionOf s ≤ lastVersion))
+pub known-decides : (s : List ℕ) → Decides (magicKnown s) (MagicFits 0x54 s ⊎ MagicFits 0x4B s)
+unfolding magicKnown
+known-decides s = or-decides (magic-decides 0x54 s) (magic-decides 0x4B s)
+
+pub version-decides : (s : List ℕ) → Decides (versionFits s) ((1 ≤ versionOf s) × (versionOf s ≤ lastVersion s))
 unfolding versionFits
 version-decides s = and-decides (leb-decides _ _) (leb-decides _ _)
 
@@ -76,9 +80,13 @@ module _ (f : Format) (steps : List ℕ) where
 
   pub greater-decides : (j i : ℕ)
       → Decides (greater f steps j i)
-      ((fromOf f steps i < fromOf f steps j) ⊎ ((fromOf f steps i ≡ fromOf f steps j) × (toOf f steps i < toOf f steps j)))
+      ((fromOf f steps i < fromOf f steps j)
+      ⊎ ((fromOf f steps i ≡ fromOf f steps j)
+      × ((toOf f steps i < toOf f steps j) ⊎ ((toOf f steps i ≡ toOf f steps j) × (keyOf f steps i < keyOf f steps j)))))
   unfolding greater
-  greater-decides j i = or-decides (ltb-decides _ _) (and-decides (eqb-decides _ _) (ltb-decides _ _))
+  greater-decides j i =
+      or-decides (ltb-decides _ _)
+      (and-decides (eqb-decides _ _) (or-decides (ltb-decides _ _) (and-decides (eqb-decides _ _) (ltb-decides _ _))))
 
 pub not-greater-decides : (s : List ℕ) (j : ℕ) → Decides (notGreater (formatIn s) (stepsPart s) j) (NotGreater s j)
 unfolding notGreater

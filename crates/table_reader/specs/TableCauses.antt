@@ -1,4 +1,4 @@
--- The causes 1 to 9, 24 and 28, each worded as its row of document 01's table or as Ask 1, 5 or 6 of document 02, and not through the reader. `file` is the
+-- The causes 1 to 9, 24 and 28, each worded as its row of document 01's table or as Ask 1, 5, 6 or 9 of document 02, and not through the reader. `file` is the
 -- number of the file in the answer.
 use Prim.Native.Nat.{ℕ, zero, suc, _≤_, _<_}
 use mathlib.Core.Path.{_≡_}
@@ -12,7 +12,7 @@ use Rattle.lists.specs.Numbers.{byteAt}
 use Rattle.words.specs.Bits.{HasFrom}
 use Rattle.answers.specs.Numbers.{sixNumbers}
 use Rattle.answers.specs.Causes.{Cause, _gives_, only, NoCause}
-use Rattle.tables.specs.Table.{versionOf, layoutIn, statesOf, startOf, startsOf, startWord, stepsOf, tableLength, fromIn, toIn}
+use Rattle.tables.specs.Table.{versionOf, lastVersion, layoutIn, statesOf, startOf, startsOf, startWord, stepsOf, tableLength, fromIn, toIn, keyIn}
 
 -- Bytes 0 to 2 are "TP" and this third one.
 abbrev pub MagicFits : ℕ → List ℕ → Type 0
@@ -26,16 +26,18 @@ EndOutside s j = (statesOf s ≤ fromIn s j) ⊎ (statesOf s ≤ toIn s j)
 abbrev pub EqualsEarlier : List ℕ → ℕ → Type 0
 EqualsEarlier s j = (i : ℕ) × (i < j) × (fromIn s i ≡ fromIn s j) × (toIn s i ≡ toIn s j)
 
--- Step j is greater than step i: by from, then by to.
+-- Step j is greater than step i: by from, then by to, then by key. Without keys, where all are 0, the ends decide.
 abbrev pub Greater : List ℕ → ℕ → ℕ → Type 0
-Greater s j i = (fromIn s i < fromIn s j) ⊎ ((fromIn s i ≡ fromIn s j) × (toIn s i < toIn s j))
+Greater s j i =
+    (fromIn s i < fromIn s j)
+    ⊎ ((fromIn s i ≡ fromIn s j) × ((toIn s i < toIn s j) ⊎ ((toIn s i ≡ toIn s j) × (keyIn s i < keyIn s j))))
 
 -- Step j is not greater than the one before it; step 0 has none before it.
 abbrev pub NotGreater : List ℕ → ℕ → Type 0
 NotGreater s zero = ⊥
 NotGreater s (suc i) = ¬ Greater s (suc i) i
 
--- The file has a start word, by its version.
+-- The file has a start word, by its format.
 abbrev pub StartWord : List ℕ → Type 0
 StartWord s = T (startWord s)
 
@@ -52,10 +54,10 @@ abbrev pub headerCauses : ℕ → List ℕ → List Cause
 headerCauses file s =
     -- table under 9 bytes
     (length s < 9) gives sixNumbers 1 file 0
-    -- first three bytes
-    ∷ (¬ MagicFits 0x54 s) gives sixNumbers 2 file 0
-    -- version other than 1 to 4
-    ∷ (¬ ((1 ≤ versionOf s) × (versionOf s ≤ 4))) gives sixNumbers 3 file 0
+    -- first three bytes: neither "TPT" nor "TPK"
+    ∷ (¬ (MagicFits 0x54 s ⊎ MagicFits 0x4B s)) gives sixNumbers 2 file 0
+    -- version other than 1 to 4, of a table with keys other than 1
+    ∷ (¬ ((1 ≤ versionOf s) × (versionOf s ≤ lastVersion s))) gives sixNumbers 3 file 0
     -- under the length of its header: 16 bytes with a start word, and 9, tested above, without
     ∷ (length s < layoutIn s .header) gives sixNumbers 1 file 0
     -- n not 1 to 64
@@ -82,7 +84,7 @@ doubledCauses file s = joinBelow (stepsOf s) (λ j. EqualsEarlier s j gives sixN
 abbrev pub notGreaterCauses : ℕ → List ℕ → List Cause
 notGreaterCauses file s = joinBelow (stepsOf s) (λ j. NotGreater s j gives sixNumbers 24 file j ∷ [])
 
--- The steps rise, by the version; otherwise they may stand in any order.
+-- The steps rise, by the format; otherwise they may stand in any order.
 abbrev pub StepsRise : List ℕ → Type 0
 StepsRise s = T (layoutIn s .rising)
 
@@ -93,6 +95,10 @@ orderCauses file s = only (StepsRise s) (notGreaterCauses file s) ++ only (¬ St
 -- The causes that turn a table away, in the documents' order.
 abbrev pub tableCauses : ℕ → List ℕ → List Cause
 tableCauses file s = headerCauses file s ++ (endCauses file s ++ orderCauses file s)
+
+-- The causes where the reader knows "TPT" alone: under 9 bytes, the first three bytes, then those of any table.
+abbrev pub plainTableCauses : ℕ → List ℕ → List Cause
+plainTableCauses file s = (length s < 9) gives sixNumbers 1 file 0 ∷ (¬ MagicFits 0x54 s) gives sixNumbers 2 file 0 ∷ tableCauses file s
 
 -- Their numbers: 1 to 9, 24 and 28.
 abbrev pub tableNumber : ℕ → Bool

@@ -1,4 +1,4 @@
--- What reading a table gives (document 01, Table and What is turned away; document 02, Asks 1, 5 and 6): a header, or the first cause that applies.
+-- What reading a table gives (document 01, Table and What is turned away; document 02, Asks 1, 5, 6 and 9): a header, or the first cause that applies.
 use Prim.Native.Nat.{ℕ, zero, suc}
 use mathlib.Core.List.{List}
 use mathlib.Core.Bool.{Bool, false, cond, not, _&&_, _||_}
@@ -27,6 +27,7 @@ use Rattle.tables.specs.Table.{
   stepsPart,
   fromOf,
   toOf,
+  keyOf,
 }
 use Rattle.tables.specs.declared.Head.{Head}
 use Rattle.refusals.specs.declared.TableRefusal.the-variants.{
@@ -45,9 +46,13 @@ use Rattle.refusals.specs.declared.TableRefusal.the-variants.{
 use Rattle.table_reader.specs.declared.TableRead.{TableRead}
 use Rattle.table_reader.specs.declared.TableRead.the-variants.{Good, Refused}
 
--- The version is 1 to 4.
+-- The first three bytes are "TPT", or "TPK" of a table with keys.
+unfoldable pub magicKnown : List ℕ → Bool
+magicKnown s = magicFits 0x54 s || magicFits 0x4B s
+
+-- The version is 1 to 4, and 1 of a table with keys.
 unfoldable pub versionFits : List ℕ → Bool
-versionFits s = leb 1 (versionOf s) && leb (versionOf s) lastVersion
+versionFits s = leb 1 (versionOf s) && leb (versionOf s) (lastVersion s)
 
 -- n is 1 to 64.
 unfoldable pub statesFit : ℕ → Bool
@@ -70,9 +75,12 @@ module _ (f : Format) (steps : List ℕ) where
   unfoldable pub doubled : ℕ → Bool
   doubled j = anyBelow j (sameStep j)
 
-  -- Step j is greater than step i: by from, then by to.
+  -- Step j is greater than step i: by from, then by to, then by key.
   unfoldable pub greater : ℕ → ℕ → Bool
-  greater j i = ltb (fromOf f steps i) (fromOf f steps j) || (eqb (fromOf f steps i) (fromOf f steps j) && ltb (toOf f steps i) (toOf f steps j))
+  greater j i =
+      ltb (fromOf f steps i) (fromOf f steps j)
+      || (eqb (fromOf f steps i) (fromOf f steps j)
+      && (ltb (toOf f steps i) (toOf f steps j) || (eqb (toOf f steps i) (toOf f steps j) && ltb (keyOf f steps i) (keyOf f steps j))))
 
   -- Step j is not greater than the one before it; step 0 has none before it.
   unfoldable pub notGreater : ℕ → Bool
@@ -103,7 +111,7 @@ readSizes s =
 unfoldable pub readHeader : List ℕ → TableRead
 readHeader s =
     cond (ltb (length s) startHeader) (Refused Short)
-    (cond (not (magicFits 0x54 s)) (Refused Magic)
+    (cond (not (magicKnown s)) (Refused Magic)
     (cond (not (versionFits s)) (Refused Version)
     (readSizes s)))
 
@@ -127,3 +135,10 @@ withSteps s (Refused r) = Refused r
 -- What reading a table gives: a header, or the refusal.
 unfoldable pub readTable : List ℕ → TableRead
 readTable s = withSteps s (readHeader s)
+
+-- What reading a table gives where the reader knows "TPT" alone: 1 and 2, and 2 for a table with keys too, then the others.
+unfoldable pub readPlainTable : List ℕ → TableRead
+readPlainTable s =
+    cond (ltb (length s) startHeader) (Refused Short)
+    (cond (not (magicFits 0x54 s)) (Refused Magic)
+    (readTable s))

@@ -8,6 +8,8 @@ use tables::Layout;
 use tables::format_of;
 use tables::from;
 use tables::initial;
+use tables::key;
+use tables::last_version;
 use tables::start;
 use tables::starts;
 use tables::states;
@@ -21,7 +23,7 @@ ghost use mathlib.Core.Path.{_≡_};
 ghost use Rattle.lists.specs.Below.{firstBelow};
 ghost use Rattle.answers.specs.Verdicts.{refusalOf};
 ghost use Rattle.tables.specs.Table.{magicFits, fromOf, toOf};
-ghost use Rattle.table_reader.specs.TableReading.{headOf, wrongStarts, readLength, readSizes, readHeader, readTable};
+ghost use Rattle.table_reader.specs.TableReading.{magicKnown, headOf, wrongStarts, readLength, readSizes, readHeader, readTable, readPlainTable};
 ghost use Rattle.table_reader.specs.TableReading.{endsOutside, doubled, greater, notGreater};
 ghost use Rattle.table_reader.specs.EndsSeen.{EndsBelow};
 ghost use Rattle.table_reader.specs.TableVerdicts.{tableVerdict};
@@ -43,6 +45,16 @@ pub fn magic_fits(s: &[u8], third: usize) -> bool
         return false;
     }
     byte(s, 2) == third
+}
+
+// Whether the first three bytes are those of a table, without keys or with keys.
+fn magic_known(s: &[u8]) -> bool
+    ensures { λ r. ⌜ r ≡ magicKnown (now (s .entry)) ⌝ }
+{
+    if magic_fits(s, Head::TABLE) {
+        return true;
+    }
+    magic_fits(s, Head::KEYED_TABLE)
 }
 
 // What the header says, whether or not the table is good.
@@ -118,14 +130,14 @@ fn read_header(s: &[u8]) -> TableRead
     if s.len() < Layout::ONE_START {
         return TableRead::Refused(TableRefusal::Short);
     }
-    if !magic_fits(s, Head::TABLE) {
+    if !magic_known(s) {
         return TableRead::Refused(TableRefusal::Magic);
     }
     let version = version(s);
     if version < 1 {
         return TableRead::Refused(TableRefusal::Version);
     }
-    if Format::LAST_VERSION < version {
+    if last_version(s) < version {
         return TableRead::Refused(TableRefusal::Version);
     }
     read_sizes(s)
@@ -170,14 +182,19 @@ fn first_doubled(steps: &[u8], format: Format, m: usize) -> usize
     m
 }
 
-// Whether the one step is greater than the other: by from, then by to.
+// Whether the one step is greater than the other: by from, then by to, then by key.
 fn is_greater(steps: &[u8], format: Format, later: usize, earlier: usize) -> bool
     ensures { λ r. ⌜ r ≡ greater format (now (steps .entry)) later earlier ⌝ }
 {
     let s = from(steps, format, earlier);
     let t = from(steps, format, later);
     if s == t {
-        return to(steps, format, earlier) < to(steps, format, later);
+        let u = to(steps, format, earlier);
+        let v = to(steps, format, later);
+        if u == v {
+            return key(steps, format, earlier) < key(steps, format, later);
+        }
+        return u < v;
     }
     s < t
 }
@@ -224,6 +241,19 @@ pub fn read_table(s: &[u8]) -> TableRead
         return TableRead::Refused(TableRefusal::Doubled(doubled));
     }
     read
+}
+
+// Reads a table as one that knows no keys: causes 1 and 2, and 2 for a table with keys too, then the others.
+pub fn read_plain_table(s: &[u8]) -> TableRead
+    ensures { λ r. ⌜ r ≡ readPlainTable (now (s .entry)) ⌝ }
+{
+    if s.len() < Layout::ONE_START {
+        return TableRead::Refused(TableRefusal::Short);
+    }
+    if !magic_fits(s, Head::TABLE) {
+        return TableRead::Refused(TableRefusal::Magic);
+    }
+    read_table(s)
 }
 
 // The answer of a table's read that is no header; for a header it is blank.

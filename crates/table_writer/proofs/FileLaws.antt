@@ -12,7 +12,8 @@ use Rattle.lists.proofs.FlatLaws.{flat-length, flat-at}
 use Rattle.lists.proofs.NumberLaws.{length-bytes, bytes-back}
 use Rattle.tables.specs.declared.Format.{Format}
 use Rattle.tables.specs.declared.Format.the-variants.{Version4}
-use Rattle.tables.specs.Table.{layoutOf, formatOf, versionOf, formatIn, layoutIn, statesOf, startsOf, stepsOf, stepsAt, tableLength, labelsPart, stepsPart}
+use mathlib.Core.Bool.{false}
+use Rattle.tables.specs.Table.{layoutOf, formatOf, keyed, versionOf, lastVersion, formatIn, layoutIn, statesOf, startsOf, stepsOf, stepsAt, tableLength, labelsPart, stepsPart}
 use Rattle.tables.specs.Table.{fromOf, toOf, fromIn, toIn}
 use Rattle.table_reader.specs.TableCauses.{MagicFits}
 use Rattle.table_writer.specs.TableFile.{stepsInOrder, tableHeader, tableFile, fileLength}
@@ -44,8 +45,16 @@ module _ (marks : List ℕ) (starts : ℕ) (steps : List ℕ) where
   unfolding versionOf tableFile tableHeader bigBytes bigEndian
   version-is = refl
 
+  pub plain : keyed table ≡ false
+  unfolding keyed tableFile tableHeader
+  plain = refl
+
+  pub last-is : lastVersion table ≡ 4
+  unfolding lastVersion keyed tableFile tableHeader
+  last-is = refl
+
   pub format-is : formatIn table ≡ Version4
-  unfolding formatIn formatOf versionOf tableFile tableHeader bigBytes bigEndian
+  unfolding keyed formatIn formatOf versionOf tableFile tableHeader bigBytes bigEndian
   format-is = refl
 
   pub states-is : length marks < 256 → statesOf table ≡ length marks
@@ -57,7 +66,7 @@ module _ (marks : List ℕ) (starts : ℕ) (steps : List ℕ) where
   starts-is h = ap (λ (x : ℕ). x % 2 ^ 64) (bytes-back 8 starts (bigBytes 2 (length steps) ++ marksBytes ++ stepsBytes) h) ∙ mod-eq-of-lt h
 
   pub count-is : length steps < 65536 → stepsOf table ≡ length steps
-  unfolding stepsOf formatIn formatOf layoutOf versionOf tableFile tableHeader bigBytes bigEndian
+  unfolding stepsOf keyed formatIn formatOf layoutOf versionOf tableFile tableHeader bigBytes bigEndian
   count-is h = omega arith
 
   -- ---- the length

@@ -153,7 +153,7 @@ module _ (marks : List ℕ) (starts : ℕ) (steps : List ℕ) (w : Writable mark
       let t′ = to-is (suc i) l in
       elim (decLt (fromIn table i) (fromIn table (suc i))) [
         | yes p ↦ inl p
-        | no p ↦ inr (omega arith, omega arith)
+        | no p ↦ inr (omega arith, inl (omega arith))
       ]
 
   rising : (j : ℕ) → j < length steps → ¬ NotGreater table j
@@ -176,13 +176,14 @@ module _ (marks : List ℕ) (starts : ℕ) (steps : List ℕ) (w : Writable mark
       header =
           let long = file.file-length marks starts steps once-in-order in
           let v = file.version-is marks starts steps in
+          let last = file.last-is marks starts steps in
           let h = header-is in
           let n = states-are in
           let m = count-is in
           let few = w .few in (
             λ p. omega arith,
             (
-              λ p. p (file.magic-is marks starts steps),
+              λ p. p (inl (file.magic-is marks starts steps)),
               (
                 λ p. p (omega arith, omega arith),
                 (

@@ -7,7 +7,7 @@ use native.Mathlib.Omega.{arith}
 use lib.Dec.{T, leb, leb→le}
 use Rattle.lists.proofs.BoolLaws.{and-l, and-r}
 use Rattle.tables.specs.declared.Format.{Format}
-use Rattle.tables.specs.declared.Format.the-variants.{Version1, Version2, Version3, Version4}
+use Rattle.tables.specs.declared.Format.the-variants.{Version1, Version2, Version3, Version4, Keyed}
 use Rattle.tables.specs.declared.Layout.{Layout}
 use Rattle.tables.specs.Table.{layoutOf}
 
@@ -38,11 +38,12 @@ of-format Version1 = tt
 of-format Version2 = tt
 of-format Version3 = tt
 of-format Version4 = tt
+of-format Keyed = tt
 
 pub layout-fits : (f : Format) {l : Layout} → l ≡ layoutOf f → LayoutFits l
 layout-fits f e = rw e (told (layoutOf f) (of-format f))
 
--- item i of w bytes in a part of n bytes, as many as a slice may have: where its first and its second byte are past the end, and that their places fit
+-- item i of w bytes in a part of n bytes, as many as a slice may have: where its first, second and third byte are past the end, and that their places fit
 module _ (i n : ℕ) {w : ℕ} (least : 2 ≤ w) (most : w ≤ 4) where
   pub first-past : n / 2 < i → n ≤ i * w
   first-past h = let k : i * 2 ≤ i * w = mul-le-mul-left i least in omega arith
@@ -52,6 +53,12 @@ module _ (i n : ℕ) {w : ℕ} (least : 2 ≤ w) (most : w ≤ 4) where
 
   pub item-fits : i ≤ n / 2 → n * 1 < 2 ^ 63 → i * w + 1 < 2 ^ 64
   item-fits h b = let k : i * w ≤ i * 4 = mul-le-mul-left i most in omega arith
+
+  pub third-past : n / 2 ≤ i → n ≤ i * w + 2
+  third-past h = let k = second-past h in omega arith
+
+  pub third-fits : i < n / 2 → n * 1 < 2 ^ 63 → i * w + 2 < 2 ^ 64
+  third-fits h b = let k : i * w ≤ i * 4 = mul-le-mul-left i most in omega arith
 
 -- so many items are few bytes
 pub items-few : {i w m : ℕ} → i < m → w ≤ 4 → i * w ≤ m * 4

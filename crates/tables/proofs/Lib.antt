@@ -1,4 +1,5 @@
--- Layouts, labels, and examples of what the definitions give.
+-- Layouts, kinds, labels, and examples of what the definitions give.
 pub mod LayoutLaws
+pub mod KindLaws
 pub mod LabelLaws
 pub mod ModelExamples

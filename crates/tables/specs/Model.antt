@@ -1,10 +1,10 @@
--- The system that a table's bytes give. The step test is the plain one: every step is silent.
+-- The system that a table's bytes give. A step is silent where its key is 0, so every step of a table without keys.
 use Prim.Native.Nat.{ℕ}
-use mathlib.Core.Bool.{true}
 use mathlib.Core.List.{List}
+use lib.Dec.{eqb}
 use Rattle.words.specs.Bits.{hasBit}
 use Rattle.bisimulation.specs.Systems.{System}
-use Rattle.tables.specs.Table.{formatIn, statesOf, stepsOf, initialOf, labelsPart, labelOf, fromIn, toIn}
+use Rattle.tables.specs.Table.{formatIn, statesOf, stepsOf, initialOf, labelsPart, labelOf, fromIn, toIn, keyIn}
 
 unfoldable pub systemOf : List ℕ → System
 systemOf s =
@@ -15,5 +15,5 @@ systemOf s =
       label = labelOf (formatIn s) (labelsPart s);
       from = fromIn s;
       to = toIn s;
-      silent = λ j. true;
+      silent = λ j. eqb (keyIn s j) 0;
     }

@@ -1,4 +1,4 @@
--- State tables (document 01, Table; document 02, Asks 1, 5 and 6): where each part stands. Numbers of two bytes or more have the high byte first.
+-- State tables (document 01, Table; document 02, Asks 1, 5, 6 and 9): where each part stands. Numbers of two bytes or more have the high byte first.
 use Prim.Native.Nat.{ℕ, _+_, _*_, _%_, _^_}
 use mathlib.Core.List.{List}
 use mathlib.Core.Bool.{Bool, true, false, cond, _&&_}
@@ -7,7 +7,7 @@ use Rattle.lists.specs.Lists.{part}
 use Rattle.lists.specs.Numbers.{byteAt, bigEndian}
 use Rattle.words.specs.Bits.{addBit}
 use Rattle.tables.specs.declared.Format.{Format}
-use Rattle.tables.specs.declared.Format.the-variants.{Version1, Version2, Version3, Version4}
+use Rattle.tables.specs.declared.Format.the-variants.{Version1, Version2, Version3, Version4, Keyed}
 use Rattle.tables.specs.declared.Layout.{Layout}
 
 -- The limits: n is 1 to 64, m is 0 to 256.
@@ -26,42 +26,50 @@ startHeader = 9
 abbrev pub wordHeader : ℕ
 wordHeader = 16
 
--- A layout is the bytes of the header, whether the starts are a word, where m stands, the bytes of a mark and of a step, and whether the steps rise.
+-- A layout is the bytes of the header, whether the starts are a word, where m stands, the bytes of a mark and of a step, whether the steps rise, and whether
+-- each has a key.
 -- With one start, marks of 16 bits; the steps rise, or may stand in any order.
 abbrev pub oneStartLayout : Bool → Layout
-oneStartLayout rising = record { header = startHeader; word = false; count = 7; label = 2; step = 2; rising = rising }
+oneStartLayout rising = record { header = startHeader; word = false; count = 7; label = 2; step = 2; rising = rising; keyed = false }
 
--- With a start word, marks of so many bytes; the steps rise.
-abbrev pub startWordLayout : ℕ → Layout
-startWordLayout label = record { header = wordHeader; word = true; count = 14; label = label; step = 2; rising = true }
+-- With a start word, marks and steps of so many bytes; the steps rise, and have keys or not.
+abbrev pub startWordLayout : (label step : ℕ) → Bool → Layout
+startWordLayout label step keyed =
+    record { header = wordHeader; word = true; count = 14; label = label; step = step; rising = true; keyed = keyed }
 
--- Version 2 has the layout of version 1, but its steps rise. Version 3 has a start word besides. Version 4 is version 3 with marks of four bytes.
+-- Version 2 has the layout of version 1, but its steps rise. Version 3 has a start word besides. Version 4 is version 3 with marks of four bytes. A table with
+-- keys has the header, start word and marks of version 4, and steps of three bytes: from, to, key.
 unfoldable pub layoutOf : Format → Layout
 layoutOf Version1 = oneStartLayout false
 layoutOf Version2 = oneStartLayout true
-layoutOf Version3 = startWordLayout 2
-layoutOf Version4 = startWordLayout 4
+layoutOf Version3 = startWordLayout 2 2 false
+layoutOf Version4 = startWordLayout 4 2 false
+layoutOf Keyed = startWordLayout 4 3 true
 
--- The last version; the first is 1.
-abbrev pub lastVersion : ℕ
-lastVersion = 4
-
--- The format of a version. A number that is no version, which 3 turns away, counts as the last.
-unfoldable pub formatOf : ℕ → Format
-formatOf version = cond (eqb version 1) Version1 (cond (eqb version 2) Version2 (cond (eqb version 3) Version3 Version4))
+-- The format of a version, of a table with or without keys. A number that is no version, which 3 turns away, counts as the last.
+unfoldable pub formatOf : (keyed : Bool) → ℕ → Format
+formatOf keyed version = cond keyed Keyed (cond (eqb version 1) Version1 (cond (eqb version 2) Version2 (cond (eqb version 3) Version3 Version4)))
 
 -- ---- the header
 
--- Bytes 0 to 2: "TP" and a third, which is "T" for a table.
+-- Bytes 0 to 2: "TP" and a third, which is "T" for a table without keys and "K" for one with keys.
 unfoldable pub magicFits : ℕ → List ℕ → Bool
 magicFits third s = eqb (byteAt s 0) 0x54 && eqb (byteAt s 1) 0x50 && eqb (byteAt s 2) third
 
--- Bytes 3, 4: version. It gives the format, and the format the layout.
+-- The kind of the table: whether its steps have keys, by the third byte.
+unfoldable pub keyed : List ℕ → Bool
+keyed s = eqb (byteAt s 2) 0x4B
+
+-- Bytes 3, 4: version. Kind and version give the format, and the format the layout.
 unfoldable pub versionOf : List ℕ → ℕ
 versionOf s = bigEndian s 3 2
 
 unfoldable pub formatIn : List ℕ → Format
-formatIn s = formatOf (versionOf s)
+formatIn s = formatOf (keyed s) (versionOf s)
+
+-- The last version of each kind; the first is 1.
+unfoldable pub lastVersion : List ℕ → ℕ
+lastVersion s = cond (keyed s) 1 4
 
 abbrev pub layoutIn : List ℕ → Layout
 layoutIn s = layoutOf (formatIn s)
@@ -77,7 +85,7 @@ startOf s = byteAt s 6
 unfoldable pub startsOf : List ℕ → ℕ
 startsOf s = bigEndian s 6 8 % 2 ^ 64
 
--- Whether the file has a start word, by its version.
+-- Whether the file has a start word, by its format.
 unfoldable pub startWord : List ℕ → Bool
 startWord s = layoutIn s .word
 
@@ -115,9 +123,16 @@ fromOf f steps j = byteAt steps (j * layoutOf f .step)
 unfoldable pub toOf : Format → List ℕ → ℕ → ℕ
 toOf f steps j = byteAt steps (j * layoutOf f .step + 1)
 
--- Of the whole file, the states that step j leaves and enters.
+-- The key of step j, its third byte, and 0 where steps have no keys. Key 0 is silent.
+unfoldable pub keyOf : Format → List ℕ → ℕ → ℕ
+keyOf f steps j = cond (layoutOf f .keyed) (byteAt steps (j * layoutOf f .step + 2)) 0
+
+-- Of the whole file, the states that step j leaves and enters, and its key.
 abbrev pub fromIn : List ℕ → ℕ → ℕ
 fromIn s = fromOf (formatIn s) (stepsPart s)
 
 abbrev pub toIn : List ℕ → ℕ → ℕ
 toIn s = toOf (formatIn s) (stepsPart s)
+
+abbrev pub keyIn : List ℕ → ℕ → ℕ
+keyIn s = keyOf (formatIn s) (stepsPart s)

@@ -7,15 +7,16 @@ use words::Row;
 ghost use mathlib.Core.Path.{_≡_};
 ghost use Prim.Native.Nat.{_<_};
 ghost use Rattle.tables.specs.Table.{oneStartLayout, startWordLayout, layoutOf, formatOf};
-ghost use Rattle.tables.specs.Table.{versionOf, formatIn, statesOf, startOf, startsOf, initialOf, stepsOf};
-ghost use Rattle.tables.specs.Table.{stepsAt, tableLength, labelsPart, stepsPart, labelOf, fromOf, toOf};
+ghost use Rattle.tables.specs.Table.{keyed, versionOf, lastVersion, formatIn, statesOf, startOf, startsOf, initialOf, stepsOf};
+ghost use Rattle.tables.specs.Table.{stepsAt, tableLength, labelsPart, stepsPart, labelOf, fromOf, toOf, keyOf};
 
-// The format of a table, by its version.
+// The format of a table: by its version, or that of tables whose steps have keys.
 pub enum Format {
     Version1,
     Version2,
     Version3,
     Version4,
+    Keyed,
 }
 
 // Where the fields of a format stand and how wide they are. The first six bytes are the same in all, and the starts follow them.
@@ -31,6 +32,8 @@ pub struct Layout {
     pub step: usize,
     // Whether the steps rise; otherwise they may stand in any order.
     pub rising: bool,
+    // Whether each step has a key, its third byte.
+    pub keyed: bool,
 }
 
 // What the header of a good table says; `initial` is the set of initial states.
@@ -61,32 +64,39 @@ impl Layout {
             label: 2,
             step: 2,
             rising,
+            keyed: false,
         }
     }
 
-    // A start word, labels of so many bytes, and steps that rise.
-    fn with_start_word(label: usize) -> Self
-        ensures { λ r. ⌜ r ≡ startWordLayout label ⌝ }
+    // A start word, labels and steps of so many bytes, and steps that rise; they have keys or not.
+    fn with_start_word(label: usize, step: usize, keyed: bool) -> Self
+        ensures { λ r. ⌜ r ≡ startWordLayout label step keyed ⌝ }
     {
         Layout {
             header: Layout::START_WORD,
             word: true,
             count: 14,
             label,
-            step: 2,
+            step,
             rising: true,
+            keyed,
         }
     }
 }
 
 impl Format {
-    // The last version that is read; the first is 1.
+    // The last version of tables without keys, and of those with keys; the first is 1.
     pub const LAST_VERSION: usize = 4;
 
-    // The format of a version; a number that is no version counts as the last.
-    pub fn of(version: usize) -> Self
-        ensures { λ r. ⌜ r ≡ formatOf version ⌝ }
+    pub const LAST_KEYED_VERSION: usize = 1;
+
+    // The format of a version, of tables with or without keys; a number that is no version counts as the last.
+    pub fn of(keyed: bool, version: usize) -> Self
+        ensures { λ r. ⌜ r ≡ formatOf keyed version ⌝ }
     {
+        if keyed {
+            return Format::Keyed;
+        }
         if version == 1 {
             return Format::Version1;
         }
@@ -107,8 +117,9 @@ impl Format {
         match format {
             Format::Version1 => Layout::with_one_start(false),
             Format::Version2 => Layout::with_one_start(true),
-            Format::Version3 => Layout::with_start_word(2),
-            Format::Version4 => Layout::with_start_word(4),
+            Format::Version3 => Layout::with_start_word(2, 2, false),
+            Format::Version4 => Layout::with_start_word(4, 2, false),
+            Format::Keyed => Layout::with_start_word(4, 3, true),
         }
     }
 }
@@ -126,8 +137,18 @@ impl Head {
     // The second byte of a table and of a certificate, "P".
     pub const MAGIC_2: usize = 0x50;
 
-    // The third byte of a table, "T".
+    // The third byte of a table without keys, "T".
     pub const TABLE: usize = 0x54;
+
+    // The third byte of a table with keys, "K".
+    pub const KEYED_TABLE: usize = 0x4B;
+}
+
+// Whether the steps have keys, by the third byte.
+pub fn is_keyed(s: &[u8]) -> bool
+    ensures { λ r. ⌜ r ≡ keyed (now (s .entry)) ⌝ }
+{
+    byte(s, 2) == Head::KEYED_TABLE
 }
 
 // The version that the header gives.
@@ -137,11 +158,21 @@ pub fn version(s: &[u8]) -> usize
     read_be16(s, 3) as usize
 }
 
-// The format of a file, by its version.
+// The last version that is read of this kind of table; the first is 1.
+pub fn last_version(s: &[u8]) -> usize
+    ensures { λ r. ⌜ r ≡ lastVersion (now (s .entry)) ⌝ }
+{
+    if is_keyed(s) {
+        return Format::LAST_KEYED_VERSION;
+    }
+    Format::LAST_VERSION
+}
+
+// The format of a file, by its kind and its version.
 pub fn format_of(s: &[u8]) -> Format
     ensures { λ r. ⌜ r ≡ formatIn (now (s .entry)) ⌝ }
 {
-    Format::of(version(s))
+    Format::of(is_keyed(s), version(s))
 }
 
 // The number of states that the header gives.
@@ -256,4 +287,19 @@ pub fn to(steps: &[u8], format: Format, j: usize) -> usize
         return 0;
     }
     byte(steps, j * layout.step + 1)
+}
+
+// The key of step j, from the part that holds the steps; 0 past the end, and where steps have no keys.
+pub fn key(steps: &[u8], format: Format, j: usize) -> usize
+    ensures value { λ r. ⌜ r ≡ keyOf format (now (steps .entry)) j ⌝ }
+    ensures small { λ r. ⌜ r < 256 ⌝ }
+{
+    let layout = format.layout();
+    if layout.keyed {
+        if steps.len() / 2 <= j {
+            return 0;
+        }
+        return byte(steps, j * layout.step + 2);
+    }
+    0
 }

@@ -1,6 +1,7 @@
--- `lengths::is_shorter` meets its contract: each test that fails answers, and the last one is whether x is in the word. Assumes nothing.
-use Prim.Native.Nat.{_+_, _≤_, _<_}
-use mathlib.Core.Path.{sym, _∙_}
+-- `lengths::is_shorter` meets its contract: each test that fails answers, and the last one is whether the step is silent. Assumes nothing.
+use Prim.Native.Nat.{ℕ, _+_, _≤_, _<_}
+use mathlib.Core.Path.{sym, ap, _∙_}
+use lib.Dec.{eqb}
 use lib.ListN.{getD}
 use denote.Ref.{now}
 use native.Mathlib.Omega.{arith}
@@ -45,14 +46,29 @@ returns-3 c =
 has-requires : tie.Need-has-requires
 has-requires c κs = search needs
 
+key-requires : tie.Need-key-requires
+key-requires c κs = search needs
+
 returns-4 : tie.Need-returns-4
 unfolding shortens
 returns-4 c =
-    let if1 = c .before .before .before .before .before .before .before .if1 in
-    let if2 = c .before .before .before .before .before .before .if2 in
-    let s = c .before .before .before .before .before .before .before .before in
+    let has = c .before .before in
+    let if1 = has .before .before .before .before .before .before .before .if1 in
+    let if2 = has .before .before .before .before .before .before .if2 in
+    let s = has .before .before .before .before .before .before .before .before in
     let h : getD (now (s .args .row)) (s .args .y) 0 + 1 < getD (now (s .args .row)) (s .args .x) 0 = omega arith in
-    c .has .ensures ∙ sym (simp (lt-ltb _ _ (if1 .left), lt-ltb _ _ (if2 .left), lt-ltb _ _ h))
+    ap (λ (k : ℕ). eqb k 0) (c .key .ensures)
+    ∙ sym (simp (lt-ltb _ _ (if1 .left), lt-ltb _ _ (if2 .left), lt-ltb _ _ h, sym (has .has .ensures) ∙ c .before .if4 .taken))
+
+returns-5 : tie.Need-returns-5
+unfolding shortens
+returns-5 c =
+    let has = c .before in
+    let if1 = has .before .before .before .before .before .before .before .if1 in
+    let if2 = has .before .before .before .before .before .before .if2 in
+    let s = has .before .before .before .before .before .before .before .before in
+    let h : getD (now (s .args .row)) (s .args .y) 0 + 1 < getD (now (s .args .row)) (s .args .x) 0 = omega arith in
+    simp (lt-ltb _ _ (if1 .left), lt-ltb _ _ (if2 .left), lt-ltb _ _ h, sym (has .has .ensures) ∙ c .if4 .left)
 
 pub is-shorter-spec : {M : Type 1} → statement M
 is-shorter-spec =
@@ -67,4 +83,6 @@ is-shorter-spec =
     add-if3
     returns-3
     has-requires
-    returns-4)
+    key-requires
+    returns-4
+    returns-5)

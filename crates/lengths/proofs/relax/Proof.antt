@@ -10,7 +10,6 @@ use Rattle.words.proofs.BitLaws.{has-lt}
 use Rattle.sides.specs.Side.{relatedTo, systemIn}
 use Rattle.sides.specs.Views.{viewIn}
 use Rattle.lengths.specs.Relaxing.{Round}
-use Rattle.sides.proofs.ViewLaws.{plain-view}
 use Rattle.lengths.proofs.RelaxingLaws.{shortens-e, round-none, round-lower, round-skip}
 use borrow.Author.Needs.{needs}
 use Rattle.lengths.proofs.relax.Statement.{statement}
@@ -36,7 +35,7 @@ loop-holds : tie.Need-loop-holds Inv-loop μ-loop
 loop-holds c =
     let pre = c .before .before .before .pre in
     let a = c .before .before .before .args in (
-      round-none _ (plain-view _ _) _ pre,
+      round-none _ _ pre,
       omega arith,
       c .step-count .ensures .0,
       c .before .related .ensures .0 ∙ ap (relatedTo (now (a .ours))) (c .before .before .from .ensures),
@@ -58,7 +57,7 @@ element-copy-out-row c =
     let l = c .before .before .before .before .before .before .before .loop in
     let from2 = c .before .before .before .before .before .from2 in
     let to = c .before .before .before .before .to in
-    shortens-e (related .result .0) (l .row .at) (from2 .result) (to .result) (c .before .is-shorter .ensures) (c .if1 .taken) .1
+    shortens-e (related .result .0) (l .row .at) (from2 .result) (to .result) _ (c .before .is-shorter .ensures) (c .if1 .taken) .1
 
 add-row : tie.Need-add-row Inv-loop μ-loop
 add-row c =
@@ -66,7 +65,7 @@ add-row c =
     let l = c .before .before .before .before .before .before .before .before .loop in
     let from2 = c .before .before .before .before .before .before .from2 in
     let to = c .before .before .before .before .before .to in
-    let q = shortens-e (related .result .0) (l .row .at) (from2 .result) (to .result) (c .before .before .is-shorter .ensures) (c .before .if1 .taken) in
+    let q = shortens-e (related .result .0) (l .row .at) (from2 .result) (to .result) _ (c .before .before .is-shorter .ensures) (c .before .if1 .taken) in
     let most = l .inv .0 .bounds .most (from2 .result) (q .0) in
     omega (arith, q .2)
 
@@ -76,7 +75,7 @@ element-write-row c =
     let l = c .before .before .before .before .before .before .before .before .loop in
     let from2 = c .before .before .before .before .before .before .from2 in
     let to = c .before .before .before .before .before .to in
-    shortens-e (related .result .0) (l .row .at) (from2 .result) (to .result) (c .before .before .is-shorter .ensures) (c .before .if1 .taken) .0
+    shortens-e (related .result .0) (l .row .at) (from2 .result) (to .result) _ (c .before .before .is-shorter .ensures) (c .before .if1 .taken) .0
 
 add-e : tie.Need-add-e Inv-loop μ-loop
 add-e c = search needs
@@ -95,15 +94,14 @@ loop-again c =
     let l = c .before .before .before .before .before .before .before .loop in
     let i = l .inv in
     let view = viewIn ours theirs in
-    let plain = plain-view ours theirs in
     let below : l .e < systemIn theirs .steps = omega (arith, i .2) in
     let is : (t : ℕ) → hasBit (related .result .0) t ≡ hasBit (relatedTo ours (systemIn ours .from (a .j))) t = λ t. ap (λ (w : ℕ). hasBit w t) (i .3) in
     let small : (t : ℕ) → T (hasBit (relatedTo ours (systemIn ours .from (a .j))) t) → t < 64 =
     λ t h. has-lt (related .result .0) t (i .4) (subst T (sym (is t)) h) in (
       ⊎-elim
-          (λ w. rw (w .2, w .3) (round-lower view plain (a .j) small _ is (i .0) (from2 .ensures) (to .ensures) below
+          (λ w. rw (w .2, w .3) (round-lower view (a .j) small _ is (i .0) (from2 .ensures) (to .ensures) below
           (c .before .is-shorter .ensures) (w .0 .taken)))
-          (λ w. rw (w .1, w .2) (round-skip view plain (a .j) small _ is (i .0) (from2 .ensures) (to .ensures) (c .before .is-shorter .ensures) (w .0 .left)))
+          (λ w. rw (w .1, w .2) (round-skip view (a .j) small _ is (i .0) (from2 .ensures) (to .ensures) (c .before .is-shorter .ensures) (w .0 .left)))
           (c .if1 .came),
       omega arith,
       i .2,

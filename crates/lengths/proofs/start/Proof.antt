@@ -1,29 +1,25 @@
 -- `lengths::start` meets its contract: after e steps the row is 0 where one of them meets the obligation, and the number of states elsewhere. Assumes nothing.
 use Prim.Native.Nat.{ℕ, _≤_, _<_, _-_, _^_}
-use mathlib.Core.Path.{_≡_, sym, ap, _∙_}
+use mathlib.Core.Path.{_≡_, refl, sym, ap, _∙_}
 use mathlib.Core.Logic.{⊎-elim}
-use mathlib.Core.Bool.{true}
 use native.Mathlib.Omega.{arith}
 use lib.ListN.{replicate, length-replicate, getD-replicate}
 use denote.Ref.{now}
-use Rattle.lists.proofs.BoolLaws.{true-T}
-use Rattle.words.specs.Bits.{hasBit}
-use Rattle.words.proofs.BitLaws.{has-lt}
-use Rattle.sides.specs.Side.{relatedTo, systemIn}
+use Rattle.sides.specs.Side.{keyAt, relatedTo, systemIn}
 use Rattle.sides.specs.Views.{viewIn}
-use Rattle.lengths.specs.Relaxing.{Bounds}
-use Rattle.sides.proofs.ViewLaws.{plain-view}
-use Rattle.lengths.proofs.RelaxingLaws.{bounds-none, start-hit, start-apart, start-unmet}
+use Rattle.lengths.specs.Relaxing.{Bounds, Zeroed}
+use Rattle.lengths.proofs.RelaxingLaws.{bounds-none, met-from, start-hit, start-miss, zeroed-none, zeroed-more, zeroed-settled}
 use borrow.Author.Needs.{needs}
 use Rattle.lengths.proofs.start.Statement.{statement}
 use Rattle.lengths.proofs.start.Tie as tie
 
 abbrev Inv-loop : tie.InvT-loop
-Inv-loop ours theirs j from-states to-states n m row₀ e₀ row e = Bounds (viewIn ours theirs) j e (row .at) × (e ≤ m) × (m ≡ systemIn theirs .steps)
+Inv-loop ours theirs j from-states to-states by n m row₀ matched₀ e₀ row matched e = Bounds (viewIn ours theirs) j e (row .at) × (e ≤ m) × (m ≡ systemIn theirs .steps)
     × (from-states .0 ≡ relatedTo ours (systemIn ours .from j)) × (to-states .0 ≡ relatedTo ours (systemIn ours .to j)) × (from-states .0 < 2 ^ 64)
+    × (by ≡ keyAt ours j) × Zeroed (matched .0) (row .at)
 
 abbrev μ-loop : tie.MeasureT-loop
-μ-loop ours theirs j from-states to-states n m row₀ e₀ row e = m - e
+μ-loop ours theirs j from-states to-states by n m row₀ matched₀ e₀ row matched e = m - e
 
 from-requires : tie.Need-from-requires Inv-loop μ-loop
 from-requires c κs = search needs
@@ -37,6 +33,9 @@ to-requires c κs = search needs
 related-requires-2 : tie.Need-related-requires-2 Inv-loop μ-loop
 related-requires-2 c κs = search needs
 
+key-requires : tie.Need-key-requires Inv-loop μ-loop
+key-requires c κs = search needs
+
 states-requires : tie.Need-states-requires Inv-loop μ-loop
 states-requires c κs = search needs
 
@@ -46,38 +45,37 @@ cast-n c = search needs
 step-count-requires : tie.Need-step-count-requires Inv-loop μ-loop
 step-count-requires c κs = search needs
 
+empty-requires : tie.Need-empty-requires Inv-loop μ-loop
+empty-requires c κs = search needs
+
 loop-holds : tie.Need-loop-holds Inv-loop μ-loop
 loop-holds c =
-    let states = c .before .states in
-    let a = c .before .before .before .before .before .before .args in (
-      bounds-none _ (plain-view _ _) _ (replicate 64 (states .result)) (length-replicate 64 (states .result))
+    let states = c .before .before .states in
+    let a = c .before .before .before .before .before .before .before .before .args in (
+      bounds-none _ _ (replicate 64 (states .result)) (length-replicate 64 (states .result))
           (λ t h. getD-replicate 64 t (states .result) 0 h ∙ states .ensures .0),
       omega arith,
-      c .step-count .ensures .0,
-      c .before .before .before .before .related .ensures .0 ∙ ap (relatedTo (now (a .ours))) (c .before .before .before .before .before .from .ensures),
-      c .before .before .related2 .ensures .0 ∙ ap (relatedTo (now (a .ours))) (c .before .before .before .to .ensures),
-      c .before .before .before .before .related .ensures .1,
+      c .before .step-count .ensures .0,
+      c .before .before .before .before .before .before .related .ensures .0 ∙ ap (relatedTo (now (a .ours))) (c .before .before .before .before .before .before .before .from .ensures),
+      c .before .before .before .before .related2 .ensures .0 ∙ ap (relatedTo (now (a .ours))) (c .before .before .before .before .before .to .ensures),
+      c .before .before .before .before .before .before .related .ensures .1,
+      c .before .before .before .key .ensures,
+      zeroed-none (replicate 64 (states .result)) (c .empty .ensures),
     )
+
+is-met-requires : tie.Need-is-met-requires Inv-loop μ-loop
+is-met-requires c κs = search needs
 
 from-requires-2 : tie.Need-from-requires-2 Inv-loop μ-loop
 from-requires-2 c κs = search needs
 
-to-requires-2 : tie.Need-to-requires-2 Inv-loop μ-loop
-to-requires-2 c κs = search needs
-
-has-requires : tie.Need-has-requires Inv-loop μ-loop
-has-requires c κs = search needs
-
-has-requires-2 : tie.Need-has-requires-2 Inv-loop μ-loop
-has-requires-2 c κs = search needs
-
 element-write-row : tie.Need-element-write-row Inv-loop μ-loop
 element-write-row c =
-    let related = c .before .before .before .before .before .before .before .before .before .before .before .before .related in
-    let l = c .before .before .before .before .before .before .before .loop in
-    let from2 = c .before .before .before .before .before .from2 in
-    let has = c .before .before .before .has in
-    has-lt (related .result .0) (from2 .result) (l .inv .5) (true-T _ (sym (has .ensures) ∙ c .before .before .if1 .taken))
+    let i = c .before .before .before .before .loop .inv in
+    rw (c .from2 .ensures) (met-from _ _ _ (i .3) (i .4) (i .6) (i .0) (c .before .before .is-met .ensures) (i .5) (c .before .if1 .taken))
+
+add-requires : tie.Need-add-requires Inv-loop μ-loop
+add-requires c κs = search needs
 
 add-e : tie.Need-add-e Inv-loop μ-loop
 add-e c = search needs
@@ -87,42 +85,49 @@ loop-less c = search needs
 
 loop-again : tie.Need-loop-again Inv-loop μ-loop
 loop-again c =
-    let related = c .before .before .before .before .before .before .before .before .before .before .related in
-    let related2 = c .before .before .before .before .before .before .before .before .related2 in
-    let from2 = c .before .before .before .from2 in
-    let to2 = c .before .before .to2 in
     let a = c .before .before .before .before .before .before .before .before .before .before .before .before .args in
-    let theirs = now (a .theirs) in
     let ours = now (a .ours) in
-    let l = c .before .before .before .before .before .loop in
+    let theirs = now (a .theirs) in
+    let l = c .before .before .before .loop in
     let i = l .inv in
-    let view = viewIn ours theirs in
-    let plain = plain-view ours theirs in
-    let below : l .e < systemIn theirs .steps = omega (arith, i .2) in
-    let from-is : (t : ℕ) → hasBit (related .result .0) t ≡ hasBit (relatedTo ours (systemIn ours .from (a .j))) t = λ t. ap (λ (w : ℕ). hasBit w t) (i .3) in
-    let to-is : (t : ℕ) → hasBit (related2 .result .0) t ≡ hasBit (relatedTo ours (systemIn ours .to (a .j))) t = λ t. ap (λ (w : ℕ). hasBit w t) (i .4) in (
+    let met = c .before .is-met .ensures in
+    let below : l .e < systemIn theirs .steps = omega (arith, i .2) in (
       ⊎-elim
-          (λ w.
-          let p : hasBit (related .result .0) (from2 .result) ≡ true = sym (c .before .has .ensures) ∙ w .0 .taken in
-          rw (w .3) (start-hit view plain (a .j) _ _ from-is to-is (i .0) (from2 .ensures) (to2 .ensures) below (has-lt _ _ (i .5) (true-T _ p)) p
-          (sym (w .1 .ensures) ∙ w .2 .taken)))
-          (λ u. ⊎-elim
-          (λ w. rw (w .3) (start-unmet view plain (a .j) _ _ from-is to-is (i .0) (from2 .ensures) (to2 .ensures) (sym (w .1 .ensures) ∙ w .2 .left)))
-          (λ w. rw (w .1) (start-apart view plain (a .j) _ _ from-is to-is (i .0) (from2 .ensures) (to2 .ensures) (sym (c .before .has .ensures) ∙ w .0 .left)))
-          u)
+          (λ w. rw (w .3) (start-hit ours theirs (a .j) (i .3) (i .4) (i .6) (i .0) met below (i .5) (w .0 .taken) (w .1 .ensures)))
+          (λ w. rw (w .1) (start-miss ours theirs (a .j) (i .3) (i .4) (i .6) (i .0) met (w .0 .left)))
           (c .if1 .came),
       omega arith,
       i .2,
       i .3,
       i .4,
       i .5,
+      i .6,
+      ⊎-elim
+          (λ w.
+          let x : w .1 .result < 64 = rw (w .1 .ensures) (met-from ours theirs (a .j) (i .3) (i .4) (i .6) (i .0) met (i .5) (w .0 .taken)) in
+          rw (w .3, w .4) (zeroed-more (i .7) x (i .0 .len) (w .2 .ensures)))
+          (λ w. rw (w .1, w .2) (i .7))
+          (c .if1 .came),
     )
+
+without-requires : tie.Need-without-requires Inv-loop μ-loop
+without-requires c κs = search needs
+
+is-empty-requires : tie.Need-is-empty-requires Inv-loop μ-loop
+is-empty-requires c κs = search needs
 
 returns : tie.Need-returns Inv-loop μ-loop
 returns c =
-    let l = c .before .loop in
-    let e : l .e ≡ systemIn (now (c .before .before .before .before .before .before .before .before .args .theirs)) .steps = omega (arith, l .inv .2) in
-    (rw e at (l .inv .0), rw (l .inv .3) at (l .inv .5))
+    let a = c .before .before .before .before .before .before .before .before .before .before .before .before .args in
+    let l = c .before .before .before .loop in
+    let i = l .inv in
+    let e : l .e ≡ systemIn (now (a .theirs)) .steps = omega (arith, i .2) in (
+      rw e at (i .0),
+      (
+        zeroed-settled (now (a .ours)) (now (a .theirs)) (a .j) (i .3) (i .7) (c .before .without .ensures) (c .is-empty .ensures) refl,
+        rw (i .3) at (i .5),
+      ),
+    )
 
 pub start-spec : {M : Type 1} → statement M
 start-spec =
@@ -134,16 +139,19 @@ start-spec =
     related-requires
     to-requires
     related-requires-2
+    key-requires
     states-requires
     cast-n
     step-count-requires
+    empty-requires
     loop-holds
+    is-met-requires
     from-requires-2
-    to-requires-2
-    has-requires
-    has-requires-2
     element-write-row
+    add-requires
     add-e
     loop-less
     loop-again
+    without-requires
+    is-empty-requires
     returns)

@@ -75,7 +75,7 @@ given f =
 -- ---- the needs
 
 is-no-path-requires : tie.Need-is-no-path-requires
-is-no-path-requires c κs = c .before .before .before .before .pre .linked
+is-no-path-requires c κs = c .before .before .before .before .pre .plain
 
 refusal-requires : tie.Need-refusal-requires
 refusal-requires c κs = search needs

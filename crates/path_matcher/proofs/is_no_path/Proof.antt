@@ -38,8 +38,8 @@ returns-3 c = no-state _ _ 0 (omega arith) (omega arith)
 loop-holds : tie.Need-loop-holds Inv-loop μ-loop
 loop-holds c = (omega arith, omega arith, c .before .byte .ensures .0, read-first _ _ (omega arith))
 
-entered-requires : tie.Need-entered-requires Inv-loop μ-loop
-entered-requires c κs = search needs
+silent-requires : tie.Need-silent-requires Inv-loop μ-loop
+silent-requires c κs = search needs
 
 byte-requires-2 : tie.Need-byte-requires-2 Inv-loop μ-loop
 byte-requires-2 c κs = search needs
@@ -53,7 +53,7 @@ returns-4 c =
     let l = c .before .before .before .before .before .loop in
     let h = c .before in
     no-step _ _ (l .i - 1) (omega arith) (omega arith)
-    (read-step (a .pre) (now (a .args .path)) (l .i - 1) (l .i) (l .inv .2) (h .before .byte2 .ensures .0) (h .before .before .entered .ensures .0)
+    (read-step (a .pre) (now (a .args .path)) (l .i - 1) (l .i) (l .inv .2) (h .before .byte2 .ensures .0) (h .before .before .silent .ensures .0)
     (h .has .ensures)
     ∙ not-true _ (c .if4 .taken))
 
@@ -72,7 +72,7 @@ loop-again c =
     let l = c .before .before .before .before .before .before .loop in
     let h = c .before .before in
     let u = h .before .byte2 .ensures .0 in
-    let step = read-step (a .pre) (now (a .args .path)) (l .i - 1) (l .i) (l .inv .2) u (h .before .before .entered .ensures .0) (h .has .ensures) in (
+    let step = read-step (a .pre) (now (a .args .path)) (l .i - 1) (l .i) (l .inv .2) u (h .before .before .silent .ensures .0) (h .has .ensures) in (
       omega arith,
       omega arith,
       u ∙ ap (byteAt (now (a .args .path))) (omega arith),
@@ -98,7 +98,7 @@ is-no-path-spec =
     byte-requires
     returns-3
     loop-holds
-    entered-requires
+    silent-requires
     byte-requires-2
     has-requires
     returns-4

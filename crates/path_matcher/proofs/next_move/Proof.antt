@@ -6,7 +6,7 @@ use native.Mathlib.Omega.{arith}
 use denote.Ref.{now}
 use borrow.Author.Needs.{needs}
 use Rattle.words.specs.Bits.{firstBit}
-use Rattle.sides.specs.Side.{enteredFrom}
+use Rattle.sides.specs.Side.{silentFrom}
 use Rattle.outcomes.specs.declared.Clause.the-variants.{Step, Stutter, Match}
 use Rattle.path_matcher.proofs.MoveLaws.{after-some, after-none, move-by, move-met, move-on, move-none}
 use Rattle.path_matcher.proofs.next_move.Statement.{statement}
@@ -71,8 +71,8 @@ returns-5 : tie.Need-returns-5
 returns-5 c =
     let start = c .before .before .before .before .before .before in
     let own = c .before in
-    let e = own .smallest-after .ensures ∙ ap (λ (s : ℕ). firstBit (enteredFrom (now (start .args .ours)) s)) (own .before .byte .ensures .0) in
-    move-none (start .pre .0) (start .pre .1) (omega arith) (inl (after-some (start .pre .0 .linked) _ e (c .if2 .taken) .0))
+    let e = own .smallest-after .ensures ∙ ap (λ (s : ℕ). firstBit (silentFrom (now (start .args .ours)) s)) (own .before .byte .ensures .0) in
+    move-none (start .pre .0) (start .pre .1) (omega arith) (inl (after-some (start .pre .0 .plain) _ e (c .if2 .taken) .0))
 
 smallest-after-requires-2 : tie.Need-smallest-after-requires-2
 smallest-after-requires-2 c κs = search needs
@@ -81,15 +81,15 @@ returns-6 : tie.Need-returns-6
 returns-6 c =
     let start = c .before .before .before .before .before .before .before .before in
     let own = c .before .before .before in
-    let e = own .smallest-after .ensures ∙ ap (λ (s : ℕ). firstBit (enteredFrom (now (start .args .ours)) s)) (own .before .byte .ensures .0) in
-    let x = after-some (start .pre .0 .linked′) _ (c .before .smallest-after2 .ensures) (c .if3 .taken) in
-    move-on (start .pre .0) (start .pre .1) (omega arith) (after-none (start .pre .0 .linked) _ e (c .before .before .if2 .left)) (x .0) (x .1)
+    let e = own .smallest-after .ensures ∙ ap (λ (s : ℕ). firstBit (silentFrom (now (start .args .ours)) s)) (own .before .byte .ensures .0) in
+    let x = after-some (start .pre .0 .plain′) _ (c .before .smallest-after2 .ensures) (c .if3 .taken) in
+    move-on (start .pre .0) (start .pre .1) (omega arith) (after-none (start .pre .0 .plain) _ e (c .before .before .if2 .left)) (x .0) (x .1)
 
 returns-7 : tie.Need-returns-7
 returns-7 c =
     let start = c .before .before .before .before .before .before .before .before in
     move-none (start .pre .0) (start .pre .1) (omega arith)
-    (inr (after-none (start .pre .0 .linked′) _ (c .before .smallest-after2 .ensures) (c .if3 .left)))
+    (inr (after-none (start .pre .0 .plain′) _ (c .before .smallest-after2 .ensures) (c .if3 .left)))
 
 pub next-move-spec : {M : Type 1} → statement M
 next-move-spec =

@@ -5,14 +5,14 @@ use borrow.Author.Needs.{needs}
 use Rattle.path_matcher.proofs.smallest_after.Statement.{statement}
 use Rattle.path_matcher.proofs.smallest_after.Tie as tie
 
-entered-requires : tie.Need-entered-requires
-entered-requires c κs = search needs
+silent-requires : tie.Need-silent-requires
+silent-requires c κs = search needs
 
 first-requires : tie.Need-first-requires
 first-requires c κs = search needs
 
 returns : tie.Need-returns
-returns c = c .first .ensures ∙ ap firstBit (c .before .entered .ensures .0)
+returns c = c .first .ensures ∙ ap firstBit (c .before .silent .ensures .0)
 
 pub smallest-after-spec : {M : Type 1} → statement M
-smallest-after-spec = tie.close (tie.spec entered-requires first-requires returns)
+smallest-after-spec = tie.close (tie.spec silent-requires first-requires returns)

@@ -2,7 +2,7 @@
 use mathlib.Core.Path.{refl, sym, ap, _∙_}
 use denote.Ref.{now}
 use borrow.Author.Needs.{needs}
-use Rattle.inputs.proofs.InputLaws.{was-read, was-refused}
+use Rattle.table_pairs.proofs.PairLaws.{was-good, was-refused}
 use Rattle.ranking.specs.Enquire.{sameSlip}
 use Rattle.ranking.proofs.MakeAnswers.{not-read, committed-by, commit-make, other-slip}
 use Rattle.ranking.proofs.MakeSidesLaws.{slip-is}
@@ -27,7 +27,7 @@ same-slip-requires c κs = search needs
 make-read-requires : tie.Need-make-read-requires
 make-read-requires c κs =
     let found = c .before .before .before .before .before in
-    was-read _ _ (sym (found .before .before .read .ensures) ∙ found .inputs2 .given .1)
+    was-good _ _ (sym (found .before .before .read .ensures) ∙ found .inputs2 .given .1)
 
 returns : tie.Need-returns
 returns c =
@@ -44,7 +44,7 @@ returns-2 c =
     let test = c .before .before .before .before in
     let found = test .before .before .before .before in
     let a = found .before .before .before .before .before .before .before .args in
-    let read = was-read _ _ (sym (found .before .before .read .ensures) ∙ found .inputs2 .given .1) in
+    let read = was-good _ _ (sym (found .before .before .read .ensures) ∙ found .inputs2 .given .1) in
     let due = slip-is (now (a .left)) (now (a .right)) (now (a .relation)) read refl (test .before .before .slip-for .ensures) in
     let same = ap (sameSlip (a .slip)) (sym due) ∙ sym (test .before .same-slip .ensures) ∙ test .if1 .taken in
     let commits = commit-make (now (a .left)) (now (a .right)) (now (a .relation)) (now (a .output)) (a .slip) same in
@@ -55,7 +55,7 @@ returns-3 : tie.Need-returns-3
 returns-3 c =
     let found = c .before .before .before .before in
     let a = found .before .before .before .before .before .before .before .args in
-    let read = was-read _ _ (sym (found .before .before .read .ensures) ∙ found .inputs2 .given .1) in
+    let read = was-good _ _ (sym (found .before .before .read .ensures) ∙ found .inputs2 .given .1) in
     let due = slip-is (now (a .left)) (now (a .right)) (now (a .relation)) read refl (c .before .before .slip-for .ensures) in
     let other = ap (sameSlip (a .slip)) (sym due) ∙ sym (c .before .same-slip .ensures) ∙ c .if1 .left in
     other-slip (now (a .left)) (now (a .right)) (now (a .relation)) read (now (a .output)) (a .slip) other

@@ -2,7 +2,7 @@
 use mathlib.Core.Path.{sym, _∙_}
 use denote.Ref.{now}
 use borrow.Author.Needs.{needs}
-use Rattle.inputs.proofs.InputLaws.{was-read, was-refused}
+use Rattle.table_pairs.proofs.PairLaws.{was-good, was-refused}
 use Rattle.ranking.proofs.MakeAnswers.{enquiry-unread}
 use Rattle.ranking.proofs.enquire.Statement.{statement}
 use Rattle.ranking.proofs.enquire.Tie as tie
@@ -20,7 +20,7 @@ enum-known-inputs-2 : tie.Need-enum-known-inputs-2
 enum-known-inputs-2 c = search needs
 
 enquire-read-requires : tie.Need-enquire-read-requires
-enquire-read-requires c κs = was-read _ _ (sym (c .before .before .before .read .ensures) ∙ c .before .inputs2 .given .1)
+enquire-read-requires c κs = was-good _ _ (sym (c .before .before .before .read .ensures) ∙ c .before .inputs2 .given .1)
 
 returns : tie.Need-returns
 returns c =

@@ -2,7 +2,7 @@
 use mathlib.Core.Path.{sym, _∙_}
 use denote.Ref.{now}
 use borrow.Author.Needs.{needs}
-use Rattle.inputs.proofs.InputLaws.{was-read, was-refused}
+use Rattle.table_pairs.proofs.PairLaws.{was-good, was-refused}
 use Rattle.ranking.proofs.MakeAnswers.{made-by, not-read}
 use Rattle.ranking.proofs.make.Statement.{statement}
 use Rattle.ranking.proofs.make.Tie as tie
@@ -17,7 +17,7 @@ enum-known-inputs-2 : tie.Need-enum-known-inputs-2
 enum-known-inputs-2 c = search needs
 
 make-read-requires : tie.Need-make-read-requires
-make-read-requires c κs = was-read _ _ (sym (c .before .before .before .before .read .ensures) ∙ c .before .before .inputs2 .given .1)
+make-read-requires c κs = was-good _ _ (sym (c .before .before .before .before .read .ensures) ∙ c .before .before .inputs2 .given .1)
 
 returns : tie.Need-returns
 returns c =

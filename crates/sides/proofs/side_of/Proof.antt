@@ -6,7 +6,7 @@ use native.Mathlib.Omega.{arith}
 use denote.Ref.{now}
 use Rattle.lists.specs.Lists.{tabulate}
 use Rattle.words.specs.Bits.{addBit}
-use Rattle.tables.specs.Table.{labelOf, fromOf, toOf}
+use Rattle.tables.specs.Table.{labelOf, fromOf, toOf, keyOf}
 use Rattle.sides.specs.Side.{systemIn}
 use Rattle.sides.specs.Building.{StatesIn, EndsIn, LinksIn}
 use Rattle.sides.proofs.BuildLaws.{StatesUpTo, states-start, states-next, states-last, ends-start, ends-next, ends-count, unlinked, side-is}
@@ -22,7 +22,7 @@ abbrev μ-loop : tie.MeasureT-loop
 μ-loop head labels steps words format side₀ s₀ side s = 64 - s
 
 abbrev Inv-loop2 : tie.InvT-loop2
-Inv-loop2 labels steps words format side₀ s m j₀ side j = EndsIn (fromOf format steps) (toOf format steps) side₀ j side × (j ≤ m) × (m ≤ 256)
+Inv-loop2 labels steps words format side₀ s m j₀ side j = EndsIn (fromOf format steps) (toOf format steps) (keyOf format steps) side₀ j side × (j ≤ m) × (m ≤ 256)
 
 abbrev μ-loop2 : tie.MeasureT-loop2
 μ-loop2 labels steps words format side₀ s m j₀ side j = m - j
@@ -105,7 +105,7 @@ loop2-holds : tie.Need-loop2-holds Inv-loop μ-loop Inv-loop2 μ-loop2 Inv-loop3
 loop2-holds c =
     let last = c .before in
     let states = states-in last in
-    (ends-start _ _ (states .room) (states .no-from) (states .no-to), omega arith, rw (c .at-most .ensures) (min-le-right _ _))
+    (ends-start _ _ _ (states .room) (states .no-from) (states .no-to) (states .no-key), omega arith, rw (c .at-most .ensures) (min-le-right _ _))
 
 from-requires : tie.Need-from-requires Inv-loop μ-loop Inv-loop2 μ-loop2 Inv-loop3 μ-loop3
 from-requires c κs = search needs
@@ -119,6 +119,12 @@ to-requires c κs = search needs
 put-requires-9 : tie.Need-put-requires-9 Inv-loop μ-loop Inv-loop2 μ-loop2 Inv-loop3 μ-loop3
 put-requires-9 c κs = search needs
 
+key-requires : tie.Need-key-requires Inv-loop μ-loop Inv-loop2 μ-loop2 Inv-loop3 μ-loop3
+key-requires c κs = search needs
+
+put-requires-10 : tie.Need-put-requires-10 Inv-loop μ-loop Inv-loop2 μ-loop2 Inv-loop3 μ-loop3
+put-requires-10 c κs = search needs
+
 add-j : tie.Need-add-j Inv-loop μ-loop Inv-loop2 μ-loop2 Inv-loop3 μ-loop3
 add-j c = search needs
 
@@ -127,10 +133,15 @@ loop2-less c = search needs
 
 loop2-again : tie.Need-loop2-again Inv-loop μ-loop Inv-loop2 μ-loop2 Inv-loop3 μ-loop3
 loop2-again c =
-    let l = c .before .before .before .before .before .before .before .loop2 in
-    let w = l .inv in
-    let from = c .before .before .before .before .from .ensures .0 in
-    (ends-next (w .0) (omega arith) from (c .before .to .ensures .0) (c .before .before .before .put8 .ensures) (c .put9 .ensures), omega arith, w .2)
+    let put9 = c .before .before .before in
+    let put8 = put9 .before .before .before in
+    let l = put8 .before .before .before .before .loop2 in
+    let w = l .inv in (
+      ends-next (w .0) (omega arith) (put8 .before .from .ensures .0) (put9 .before .to .ensures .0) (c .before .key .ensures .0)
+          (put8 .put8 .ensures) (put9 .put9 .ensures) (c .put10 .ensures),
+      omega arith,
+      w .2,
+    )
 
 loop3-holds : tie.Need-loop3-holds Inv-loop μ-loop Inv-loop2 μ-loop2 Inv-loop3 μ-loop3
 loop3-holds c =
@@ -150,8 +161,11 @@ from-requires-2 c κs = search needs
 first-requires : tie.Need-first-requires Inv-loop μ-loop Inv-loop2 μ-loop2 Inv-loop3 μ-loop3
 first-requires c κs = search needs
 
-entered-requires : tie.Need-entered-requires Inv-loop μ-loop Inv-loop2 μ-loop2 Inv-loop3 μ-loop3
-entered-requires c κs = search needs
+key-requires-2 : tie.Need-key-requires-2 Inv-loop μ-loop Inv-loop2 μ-loop2 Inv-loop3 μ-loop3
+key-requires-2 c κs = search needs
+
+entered-by-requires : tie.Need-entered-by-requires Inv-loop μ-loop Inv-loop2 μ-loop2 Inv-loop3 μ-loop3
+entered-by-requires c κs = search needs
 
 to-requires-2 : tie.Need-to-requires-2 Inv-loop μ-loop Inv-loop2 μ-loop2 Inv-loop3 μ-loop3
 to-requires-2 c κs = search needs
@@ -159,8 +173,8 @@ to-requires-2 c κs = search needs
 add-requires : tie.Need-add-requires Inv-loop μ-loop Inv-loop2 μ-loop2 Inv-loop3 μ-loop3
 add-requires c κs = search needs
 
-put-requires-10 : tie.Need-put-requires-10 Inv-loop μ-loop Inv-loop2 μ-loop2 Inv-loop3 μ-loop3
-put-requires-10 c κs = search needs
+put-entered-requires : tie.Need-put-entered-requires Inv-loop μ-loop Inv-loop2 μ-loop2 Inv-loop3 μ-loop3
+put-entered-requires c κs = search needs
 
 put-requires-11 : tie.Need-put-requires-11 Inv-loop μ-loop Inv-loop2 μ-loop2 Inv-loop3 μ-loop3
 put-requires-11 c κs = search needs
@@ -173,14 +187,16 @@ loop3-less c = search needs
 
 loop3-again : tie.Need-loop3-again Inv-loop μ-loop Inv-loop2 μ-loop2 Inv-loop3 μ-loop3
 loop3-again c =
-    let to = c .before .before .before .before .before .before .before in
+    let stored = c .before .before .before .before in
+    let to = stored .before .before .before in
     let entered = to .before .before in
-    let first = entered .before .before in
+    let key = entered .before .before in
+    let first = key .before .before in
     let from = first .before .before in
     let l = from .before .before .before .loop3 in
-    let word = c .before .before .before .before .before .before .add .ensures ∙ ap (λ (y : ℕ). addBit y (to .to2 .result)) (entered .entered .ensures .0) in (
-      links-next (l .inv .0) (omega arith) (l .inv .1) refl (from .from2 .ensures) (to .to2 .ensures) word (first .first .ensures)
-          (c .before .before .before .before .put10 .ensures) (c .before .before .put11 .ensures) (c .put12 .ensures),
+    let word = stored .before .before .add .ensures ∙ ap (λ (y : ℕ). addBit y (to .to2 .result)) (entered .entered-by .ensures .0) in (
+      links-next (l .inv .0) (omega arith) (l .inv .1) refl (from .from2 .ensures) (to .to2 .ensures) (key .key2 .ensures) word
+          (first .first .ensures) (stored .put-entered .ensures) (c .before .before .put11 .ensures) (c .put12 .ensures),
       omega arith,
     )
 
@@ -225,6 +241,8 @@ side-of-spec =
     put-requires-8
     to-requires
     put-requires-9
+    key-requires
+    put-requires-10
     add-j
     loop2-less
     loop2-again
@@ -232,10 +250,11 @@ side-of-spec =
     sub-j
     from-requires-2
     first-requires
-    entered-requires
+    key-requires-2
+    entered-by-requires
     to-requires-2
     add-requires
-    put-requires-10
+    put-entered-requires
     put-requires-11
     put-requires-12
     loop3-less

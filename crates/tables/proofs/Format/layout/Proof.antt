@@ -29,6 +29,12 @@ enum-told-4 c = search needs
 with-start-word-requires-2 : tie.Need-with-start-word-requires-2
 with-start-word-requires-2 c κs = search needs
 
+enum-told-5 : tie.Need-enum-told-5
+enum-told-5 c = search needs
+
+with-start-word-requires-3 : tie.Need-with-start-word-requires-3
+with-start-word-requires-3 c κs = search needs
+
 returns : tie.Need-returns
 unfolding layoutOf
 returns c = c .with-one-start .ensures ∙ sym (ap layoutOf (c .before .enum-told .given .1))
@@ -45,6 +51,10 @@ returns-4 : tie.Need-returns-4
 unfolding layoutOf
 returns-4 c = c .with-start-word2 .ensures ∙ sym (ap layoutOf (c .before .enum-told4 .given .1))
 
+returns-5 : tie.Need-returns-5
+unfolding layoutOf
+returns-5 c = c .with-start-word3 .ensures ∙ sym (ap layoutOf (c .before .enum-told5 .given .1))
+
 pub layout-spec : {M : Type 1} → statement M
 layout-spec =
     tie.close
@@ -57,7 +67,10 @@ layout-spec =
     with-start-word-requires
     enum-told-4
     with-start-word-requires-2
+    enum-told-5
+    with-start-word-requires-3
     returns
     returns-2
     returns-3
-    returns-4)
+    returns-4
+    returns-5)

@@ -1,0 +1,133 @@
+-- Laws of what was read of two tables: the verdict that the code's enum stands for, that both were read and are of one kind where the reading goes on, and the
+-- verdict as the code comes to it. Assumes nothing.
+use Prim.Native.Nat.{ℕ}
+use mathlib.Core.Path.{_≡_, refl, sym, ap, subst, _∙_}
+use mathlib.Core.Bool.{Bool, true, false, not, cond}
+use mathlib.Core.List.{List}
+use native.Mathlib.Omega.{arith}
+use lib.Dec.{T}
+use Rattle.lists.proofs.BoolLaws.{T-true}
+use Rattle.answers.specs.Numbers.{sixNumbers}
+use Rattle.answers.specs.Verdicts.{Verdict, goOn, refusedWith, refusalOf, passIf, passed}
+use Rattle.answers.specs.declared.Answer.{Answer}
+use Rattle.answers.proofs.DecideLaws.{Decides}
+use Rattle.answers.proofs.VerdictLaws.{then-on}
+use Rattle.refusals.specs.Refusals.{tableAnswer}
+use Rattle.refusals.specs.declared.TableRefusal.{TableRefusal}
+use Rattle.tables.specs.declared.Head.{Head}
+use Rattle.tables.specs.Table.{keyed}
+use Rattle.table_reader.specs.TableReading.{readTable, readPlainTable}
+use Rattle.table_reader.specs.TableVerdicts.{tableVerdict}
+use Rattle.table_reader.specs.declared.TableRead.{TableRead}
+use Rattle.table_reader.specs.declared.TableRead.the-variants as table
+use Rattle.table_pairs.specs.declared.Heads.{Heads}
+use Rattle.table_pairs.specs.declared.TablesRead.{TablesRead}
+use Rattle.table_pairs.specs.declared.TablesRead.the-variants.{Good, Refused}
+use Rattle.table_pairs.specs.TablePairs.{sameKind, tablesVerdict, plainTablesVerdict, asTablesRead}
+use Rattle.table_pairs.specs.PairCauses.{OneKind}
+
+-- ---- the kind
+
+false-true : _≡_ {A = Bool} false true → ⊥
+false-true e = subst (λ (b : Bool). T (not b)) e tt
+
+kinds-decide : (a b : Bool) → Decides (cond a b (not b)) (a ≡ b)
+kinds-decide true true = record { sound = λ h. refl; complete = λ e. tt }
+kinds-decide true false = record { sound = λ h. absurd h; complete = λ e. false-true (sym e) }
+kinds-decide false true = record { sound = λ h. absurd h; complete = λ e. false-true e }
+kinds-decide false false = record { sound = λ h. refl; complete = λ e. tt }
+
+pub kind-decides : (left right : List ℕ) → Decides (sameKind left right) (OneKind left right)
+unfolding sameKind
+kind-decides left right = kinds-decide (keyed left) (keyed right)
+
+-- ---- the verdict that the code's enum stands for
+
+good-not-refused : {h : Heads} {a : Answer} → _≡_ {A = TablesRead} (Good h) (Refused a) → ⊥
+good-not-refused q = let z : _≡_ {A = ℕ} 0 1 = cc q in omega arith
+
+pub was-good : (x : Verdict Heads) (h : Heads) → asTablesRead x ≡ Good h → x ≡ goOn h
+was-good (goOn k) h e = ap goOn (cc e)
+was-good (refusedWith a) h e = absurd (good-not-refused (sym e))
+
+pub was-refused : (x : Verdict Heads) (a : Answer) → asTablesRead x ≡ Refused a → x ≡ refusedWith a
+was-refused (goOn h) a e = absurd (good-not-refused e)
+was-refused (refusedWith b) a e = ap refusedWith (cc e)
+
+-- ---- both are read
+
+-- Both tables are read with these headers, and are of one kind.
+pub record BothRead (left right : List ℕ) (heads : Heads) : Type 0 where
+  pub left-good : readTable left ≡ table.Good (heads .left)
+  pub right-good : readTable right ≡ table.Good (heads .right)
+  pub one-kind : OneKind left right
+
+table-good : (file : ℕ) {h : Head} (x : TableRead) → tableVerdict file x ≡ goOn h → x ≡ table.Good h
+table-good file (table.Good k) e = ap table.Good (cc e)
+table-good file {h} (table.Refused r) e = absurd (not-on e)
+  where
+    not-on : _≡_ {A = Verdict Head} (refusedWith (tableAnswer r file)) (goOn h) → ⊥
+    not-on q = let z : _≡_ {A = ℕ} 1 0 = cc q in omega arith
+
+passed-test : (b : Bool) (a : Answer) {x : Unit {0}} → passIf b a ≡ goOn x → T b
+passed-test true a e = tt
+passed-test false a {x} e = absurd (not-on e)
+  where
+    not-on : _≡_ {A = Verdict (Unit {0})} (refusedWith a) (goOn x) → ⊥
+    not-on q = let z : _≡_ {A = ℕ} 1 0 = cc q in omega arith
+
+module _ (left right : List ℕ) where
+  -- where the reading goes on, both were read, and the headers are theirs
+  pub tables-read : {h : Heads} → tablesVerdict left right ≡ goOn h → BothRead left right h
+  unfolding tablesVerdict
+  tables-read {h} e =
+      let p = then-on (tableVerdict 0 (readTable left)) e in
+      let q = then-on (tableVerdict 1 (readTable right)) (p .2) in
+      let r = then-on (passIf (sameKind left right) (sixNumbers 30 1 0)) (q .2) in
+      let same : _≡_ {A = Heads} (record { left = p .0; right = q .0 }) h = cc (r .2) in
+      record {
+        left-good = table-good 0 (readTable left) (p .1) ∙ ap (λ (x : Heads). table.Good (x .left)) same;
+        right-good = table-good 1 (readTable right) (q .1) ∙ ap (λ (x : Heads). table.Good (x .right)) same;
+        one-kind = kind-decides left right .sound (passed-test (sameKind left right) (sixNumbers 30 1 0) (r .1));
+      }
+
+  -- and back
+  pub read-tables : {h : Heads} → BothRead left right h → tablesVerdict left right ≡ goOn h
+  unfolding tablesVerdict
+  read-tables b = rw (b .left-good, b .right-good, T-true (sameKind left right) (kind-decides left right .complete (b .one-kind)))
+
+  -- ---- as the code comes to them
+
+  pub left-refuses : {x : TableRead} {r : TableRefusal} → x ≡ readTable left → x ≡ table.Refused r
+      → Refused (refusalOf (tableVerdict 0 x)) ≡ asTablesRead (tablesVerdict left right)
+  unfolding tablesVerdict
+  left-refuses e q = rw (← e, q)
+
+  pub left-refuses-plain : {x : TableRead} {r : TableRefusal} → x ≡ readPlainTable left → x ≡ table.Refused r
+      → Refused (refusalOf (tableVerdict 0 x)) ≡ asTablesRead (plainTablesVerdict left right)
+  unfolding plainTablesVerdict
+  left-refuses-plain e q = rw (← e, q)
+
+  module _ {h : Head} (gl : readTable left ≡ table.Good h) where
+    pub right-refuses : {x : TableRead} {r : TableRefusal} → x ≡ readTable right → x ≡ table.Refused r
+        → Refused (refusalOf (tableVerdict 1 x)) ≡ asTablesRead (tablesVerdict left right)
+    unfolding tablesVerdict
+    right-refuses e q = rw (gl, ← e, q)
+
+    module _ {k : Head} (gr : readTable right ≡ table.Good k) where
+      pub by-kind : (b : Bool) → b ≡ sameKind left right
+          → asTablesRead (tablesVerdict left right) ≡ cond b (Good (record { left = h; right = k })) (Refused (sixNumbers 30 1 0))
+      unfolding tablesVerdict
+      by-kind true e = rw (gl, gr, ← e)
+      by-kind false e = rw (gl, gr, ← e)
+
+  module _ {h : Head} (gl : readPlainTable left ≡ table.Good h) where
+    pub right-refuses-plain : {x : TableRead} {r : TableRefusal} → x ≡ readPlainTable right → x ≡ table.Refused r
+        → Refused (refusalOf (tableVerdict 1 x)) ≡ asTablesRead (plainTablesVerdict left right)
+    unfolding plainTablesVerdict
+    right-refuses-plain e q = rw (gl, ← e, q)
+
+    pub both-read-plain : {k : Head} → readPlainTable right ≡ table.Good k
+        → Good (record { left = h; right = k }) ≡ asTablesRead (plainTablesVerdict left right)
+    unfolding plainTablesVerdict
+    both-read-plain gr = rw (gl, gr)

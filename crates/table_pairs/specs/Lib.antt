@@ -1,0 +1,3 @@
+-- Two tables, read together.
+pub mod TablePairs
+pub mod PairCauses
