@@ -1,13 +1,14 @@
 //! What every comparison must see of the answers: each number, on each table and in each
-//! version that has it, on each side, and in each mix of versions.
+//! version that has it, on each side, and in each mix of versions; of tables with keys the
+//! same as of those without.
 
 use crate::marks_seen;
 use crate::names::{mix_name, mix_names, SIDES};
-use crate::report::Report;
+use crate::report::{Report, Seen};
 use crate::starts_seen;
 use crate::tables::{layout, starts, states, step_count, version};
 use crate::Answer;
-use oracle::TableLayout;
+use oracle::{Form, Kind, TableLayout};
 
 /// The two tables of an input, and the rows of its relation.
 #[derive(Clone, Copy)]
@@ -30,24 +31,32 @@ impl<'a> Files<'a> {
 }
 
 /// How far a table that is refused with 7 is from the length that it should have.
-const LENGTHS: [&str; 3] = [
+const LENGTHS: [&str; 4] = [
     "one byte short",
     "one byte long",
     "marks of the other width",
+    "steps of the other width",
 ];
 
-/// The names of a success, of the refusals of tables of these versions, of 16 and 17, and
-/// of further refusals.
+/// Versions that a table with keys does not have, and one without them has.
+const VERSIONS_WITHOUT_KEYS: [u16; 3] = [2, 3, 4];
+
+/// The names of a success, of the refusals of tables of these forms, which are of one kind,
+/// of 16 and 17, and of further refusals.
 pub fn required(
     success: &str,
-    versions: &[u16],
+    forms: &[Form],
     further: impl IntoIterator<Item = u64>,
 ) -> Vec<String> {
     let mut required = vec![success.to_string()];
     for side in SIDES {
         required.extend([1, 2, 3].map(|code| format!("{code:>2}, {side} table")));
-        for &version in versions {
-            let codes = table_codes(version).into_iter();
+        if forms == [Form::TPK] {
+            let name = |version| format!(" 3, {side} table, version {version}");
+            required.extend(VERSIONS_WITHOUT_KEYS.map(name));
+        }
+        for &form in forms {
+            let (codes, version) = (table_codes(form).into_iter(), form.version);
             required
                 .extend(codes.map(|code| format!("{code:>2}, {side} table, version {version}")));
             let length = |how| format!(" 7, {side} table, version {version}, {how}");
@@ -61,16 +70,16 @@ pub fn required(
             required.push(format!("{code:>2}"));
         }
     }
-    required.extend(mix_names(success, versions));
-    required.extend(mix_names("16", versions));
-    required.extend(starts_seen::required(success, versions));
-    required.extend(marks_seen::required(success, versions));
+    required.extend(mix_names(success, forms));
+    required.extend(mix_names("16", forms));
+    required.extend(starts_seen::required(success, forms));
+    required.extend(marks_seen::required(success, forms));
     required
 }
 
-/// The numbers from 4 on that a table of this version can get, in their order.
-fn table_codes(version: u16) -> [u64; 6] {
-    let layout = TableLayout::of(version).expect("the version is known");
+/// The numbers from 4 on that a table of this form can get, in their order.
+fn table_codes(form: Form) -> [u64; 6] {
+    let layout = TableLayout::of(form).expect("the version is known");
     let start = if layout.start_word { 28 } else { 5 };
     let order = if layout.rising { 24 } else { 9 };
     [4, start, 6, 7, 8, order]
@@ -81,47 +90,72 @@ fn by_side(code: u64) -> bool {
     [18, 19, 22, 23].contains(&code)
 }
 
-/// Sees an answer to these files.
-pub fn see(report: &mut Report, success: &str, answer: Answer, files: Files) {
+/// An answer with this number refuses a table.
+pub fn refuses_table(code: u64) -> bool {
+    matches!(code, 1..=9 | 24 | 28)
+}
+
+/// Sees an answer to these files, and gives what sees the rest of them.
+pub fn see<'a>(report: &'a mut Report, success: &str, answer: Answer, files: Files) -> Seen<'a> {
+    let mut seen = report.of(kind(answer, files));
     let [code, file, side, ..] = answer;
     match code {
         0 => {
-            report.see(success);
-            report.see(mix_name(success, files.left, files.right));
-            starts_seen::see_success(report, success, files);
-            marks_seen::see_success(report, success, files);
+            seen.see(success);
+            seen.see(mix_name(success, files.left, files.right));
+            starts_seen::see_success(&mut seen, success, files);
+            marks_seen::see_success(&mut seen, success, files);
         }
-        1..=9 | 24 | 28 => see_table_refusal(report, code, file as usize, files),
+        _ if refuses_table(code) => see_table_refusal(&mut seen, code, file as usize, files),
         16 => {
-            report.see(mix_name("16", files.left, files.right));
-            starts_seen::see_refusal(report, answer, files);
+            seen.see(mix_name("16", files.left, files.right));
+            starts_seen::see_refusal(&mut seen, answer, files);
         }
-        17 => marks_seen::see_refusal(report, answer, files),
-        _ if by_side(code) => report.see(format!("{code:>2}, {} side", SIDES[side as usize])),
-        _ => report.see(format!("{code:>2}")),
+        17 => marks_seen::see_refusal(&mut seen, answer, files),
+        _ if by_side(code) => seen.see(format!("{code:>2}, {} side", SIDES[side as usize])),
+        _ => seen.see(format!("{code:>2}")),
     }
+    seen
 }
 
-fn see_table_refusal(report: &mut Report, code: u64, file: usize, files: Files) {
+/// The kind of the tables that an answer is about. Of a table that is refused it is its own,
+/// or that of the other table where it has none.
+fn kind([code, file, ..]: Answer, files: Files) -> Kind {
+    let first = if refuses_table(code) {
+        file as usize
+    } else {
+        0
+    };
+    let kinds = files.tables().map(Kind::of_file);
+    kinds[first].or(kinds[1 - first]).unwrap_or(Kind::Tpt)
+}
+
+fn see_table_refusal(seen: &mut Seen, code: u64, file: usize, files: Files) {
     let table = files.tables()[file];
     let name = format!("{code:>2}, {} table", SIDES[file]);
     match code {
-        1 if table.len() >= 9 => report.see(format!("{name}, a start word and under 16 bytes")),
-        1..=3 => report.see(name),
+        1 if table.len() >= 9 => seen.see(format!("{name}, a start word and under 16 bytes")),
+        1..=3 => {
+            if code == 3 {
+                seen.see(format!("{name}, version {}", version(table)));
+            }
+            seen.see(name);
+        }
         _ => {
             // So 5 and 9 never come to a start word, and 28 never to a start byte.
-            let version = version(table);
-            assert!(table_codes(version).contains(&code), "{name}, {version}");
+            let form = Form::of_file(table).expect("the table has a form");
+            assert!(table_codes(form).contains(&code), "{name}, {form:?}");
             if code == 28 {
                 let why = starts_seen::wrong_word(&starts(table), states(table));
-                report.see(format!("{name}, {why}"));
+                seen.see(format!("{name}, {why}"));
             }
-            report.see(format!("{name}, version {version}"));
+            let name = format!("{name}, version {}", form.version);
             if code == 7 {
                 for how in wrong_lengths(table) {
-                    report.see(format!("{name}, version {version}, {how}"));
+                    seen.see(format!("{name}, {how}"));
                 }
             }
+            seen.see(name);
         }
     }
 }
@@ -129,12 +163,19 @@ fn see_table_refusal(report: &mut Report, code: u64, file: usize, files: Files) 
 /// Which of the `LENGTHS` this table has.
 fn wrong_lengths(table: &[u8]) -> Vec<&'static str> {
     let (layout, n, m) = (layout(table), states(table), step_count(table));
-    let other = TableLayout {
+    let other_marks = TableLayout {
         mark_width: 6 - layout.mark_width,
         ..layout
     };
-    let (right, other) = (layout.length(n, m), other.length(n, m));
-    let lengths = [right - 1, right + 1, other].into_iter().zip(LENGTHS);
+    let other_steps = TableLayout {
+        step_width: 5 - layout.step_width,
+        ..layout
+    };
+    let [right, marks, steps] =
+        [layout, other_marks, other_steps].map(|layout| layout.length(n, m));
+    let lengths = [right - 1, right + 1, marks, steps]
+        .into_iter()
+        .zip(LENGTHS);
     let lengths = lengths.filter(|&(length, _)| length == table.len());
     lengths.map(|(_, how)| how).collect()
 }

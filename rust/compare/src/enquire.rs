@@ -1,11 +1,12 @@
 //! Compares an enquiry with the oracle's.
 
-use crate::answers_seen::{self, Files};
-use crate::names::{limit_names, size_names};
+use crate::answers_seen;
+use crate::make::files;
+use crate::names::{limit_names, of_each_kind, size_names};
 use crate::report::Report;
-use crate::{hex, marks_seen, starts_seen, Answer};
-use inputs::{MakeCases, VERSIONS};
-use oracle::Slip;
+use crate::{hex, keys_seen, kinds_seen, marks_seen, starts_seen, Answer};
+use inputs::{Forms, MakeCases};
+use oracle::{Form, Slip};
 
 /// What a success is called.
 const SUCCESS: &str = "can be made";
@@ -32,25 +33,39 @@ pub fn enquire(
         );
 
         report.see_label(case.label);
-        let (answer, rows) = (expected.0, relation);
-        answers_seen::see(&mut report, SUCCESS, answer, Files { left, right, rows });
+        let (answer, files) = (expected.0, files(&case));
+        kinds_seen::see(&mut report, answer, files, |left, right| {
+            oracle::tuned_maker::enquire(left, right, relation).0[0]
+        });
+        let mut seen = answers_seen::see(&mut report, SUCCESS, answer, files);
+        keys_seen::see_unmatched(&mut seen, files, answer);
         if answer[0] == 0 {
             for size in [size_names(SUCCESS, left), size_names(SUCCESS, right)].concat() {
-                report.see(size);
+                seen.see(size);
             }
-            report.see(with_length(answer[2]));
+            seen.see(with_length(answer[2]));
+            keys_seen::see_success(&mut seen, SUCCESS, files);
+            keys_seen::see_matched(&mut seen, SUCCESS, files);
         }
     }
     report
 }
 
 fn required() -> Vec<String> {
-    let mut required = answers_seen::required(SUCCESS, VERSIONS, [15, 20, 22, 23]);
-    required.extend(limit_names(SUCCESS));
-    // The least that there is, and the most.
-    required.extend([21, 41_483].map(with_length));
-    required.extend(starts_seen::required_of_large(SUCCESS, VERSIONS));
-    required.extend(marks_seen::required_of_functions(SUCCESS, VERSIONS));
+    let mut required = of_each_kind(Forms::All, |forms| {
+        let mut required = answers_seen::required(SUCCESS, forms, [15, 20, 22, 23]);
+        required.extend(limit_names(SUCCESS));
+        // The least that there is, and the most.
+        required.extend([21, 41_483].map(with_length));
+        required.extend(starts_seen::required_of_large(SUCCESS, forms));
+        required.extend(marks_seen::required_of_functions(SUCCESS, forms));
+        if forms == [Form::TPK] {
+            required.extend(keys_seen::required(SUCCESS));
+            required.extend(keys_seen::required_of_matched(SUCCESS));
+        }
+        required
+    });
+    required.extend(kinds_seen::required(Forms::All, &[15, 16, 17, 20, 22, 23]));
     required
 }
 

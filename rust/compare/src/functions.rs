@@ -1,6 +1,7 @@
 //! Holds a judge, a maker and a follower to the cases that were worked out by hand.
 
-use crate::worked::{cases, files_of_run, Case, BLOCKS, PATH, STATES};
+use crate::worked::{cases, certificates_after_30, files_of_run, p_and_q_of_two_kinds};
+use crate::worked::{Case, BLOCKS, PATH, STATES};
 use crate::Answer;
 
 /// The three functions that are held to the worked cases.
@@ -21,17 +22,29 @@ where
         for case in cases() {
             let (left, right, certificate) = (&case.left, &case.right, &case.certificate);
             let judged = (self.judge)(left, right, certificate);
-            assert_eq!(judged, case.answer, "the judge, {}", case.told());
+            assert_eq!(judged, case.judged, "the judge, {}", case.told());
             self.require_made(&case);
-            if case.answer[0] != 0 {
+            if case.followed[0] != 0 {
                 self.require_not_followed(&case);
             }
         }
         self.require_run();
+        self.require_30_first();
     }
 
-    /// The certificates accepted are those that the maker writes; all refusals here are
-    /// also the maker's, and 21 comes before 16 and 17.
+    /// 30 comes before every cause of a certificate.
+    fn require_30_first(&self) {
+        let [left, right] = p_and_q_of_two_kinds();
+        for certificate in certificates_after_30() {
+            for [left, right] in [[&left, &right], [&right, &left]] {
+                let judged = (self.judge)(left, right, &certificate);
+                assert_eq!(judged, [30, 1, 0, 0, 0, 0], "{certificate:?}");
+            }
+        }
+    }
+
+    /// The certificates accepted are those that the maker writes, and 21 comes before 16, 17,
+    /// 22 and 23.
     fn require_made(&self, case: &Case) {
         let (left, right, certificate) = (&case.left, &case.right, &case.certificate);
         let relation = &certificate[11..11 + 8 * certificate[5] as usize];
@@ -42,18 +55,20 @@ where
             (answer, output)
         };
         let untouched = |length: usize| vec![0xEE; length];
-        let (answer, output) = match case.answer[0] {
+        let (answer, output) = match case.made[0] {
             0 => ([0, 0, length as u64, 0, 0, 0], certificate.clone()),
-            _ => (case.answer, untouched(length)),
+            _ => (case.made, untouched(length)),
         };
+        let (found, written) = made(length);
+        assert_eq!(found, answer, "the maker, {}", case.told());
         assert!(
-            made(length) == (answer, output),
+            (written == output) == case.is_made,
             "the maker, {}",
             case.told()
         );
-        let answer = match case.answer[0] {
-            0 | 16 | 17 => [21, 3, length as u64, 0, 0, 0],
-            _ => case.answer,
+        let answer = match case.made[0] {
+            0 | 16 | 17 | 22 | 23 => [21, 3, length as u64, 0, 0, 0],
+            _ => case.made,
         };
         let short = (answer, untouched(length - 1));
         assert!(made(length - 1) == short, "a short output, {}", case.told());
@@ -64,7 +79,7 @@ where
         let (mut states, mut blocks) = ([0xEE; 9], [0xEE; 4]);
         let (states, blocks) = (&mut states[..], &mut blocks[..]);
         let answer = (self.follow)(left, right, certificate, 0, 0, &[0, 1], states, blocks);
-        assert_eq!(answer, case.answer, "the follower, {}", case.told());
+        assert_eq!(answer, case.followed, "the follower, {}", case.told());
         let both = [states, blocks].concat();
         assert_eq!(both, [0xEE; 13], "the follower, {}", case.told());
     }

@@ -7,6 +7,8 @@ mod commit;
 mod enquire;
 mod follow;
 mod functions;
+mod keys_seen;
+mod kinds_seen;
 mod listing;
 mod make;
 mod marks_seen;
@@ -29,14 +31,16 @@ pub use commit::commit;
 pub use enquire::enquire;
 pub use follow::follow;
 pub use functions::Functions;
-use inputs::{JudgeCases, ProgramCases, PROGRAM_FORMS, VERSIONS};
+use inputs::{Forms, JudgeCases, ProgramCases, PROGRAM_FORMS};
 pub use listing::listing;
 pub use make::{make, make_in};
 pub use matching::{Block, Given};
-use names::{limit_names, size_names};
+use names::{limit_names, of_each_kind, size_names};
+use oracle::Form;
 pub use path_property::Implementation;
 pub use promised::EnquiryAndCommit;
 pub use report::Report;
+use report::Seen;
 pub use worked::{require_worked_enquiries, require_worked_tables};
 pub use write::write;
 
@@ -46,30 +50,37 @@ type Answer = [u64; 6];
 /// starts and the marks.
 const JUDGE_CODES: [u64; 8] = [10, 11, 12, 13, 14, 15, 18, 19];
 
-/// Compares a judge with the oracle's on `count` inputs.
+/// Those of them that can come after 30.
+const JUDGE_CODES_AFTER_30: [u64; 10] = [10, 11, 12, 13, 14, 15, 16, 17, 18, 19];
+
+/// Compares a judge with the oracle's on `count` inputs: on tables without keys in every mix
+/// of versions, on tables with keys, and on tables of two kinds.
 pub fn judge(
     count: usize,
     seed: u64,
     under_test: impl FnMut(&[u8], &[u8], &[u8]) -> Answer,
 ) -> Report {
-    judge_in(VERSIONS, count, seed, under_test)
+    judge_of(Forms::All, count, seed, under_test)
 }
 
-/// The same on tables of these versions.
+/// The same on tables without keys of these versions alone.
 pub fn judge_in(
     versions: &'static [u16],
     count: usize,
     seed: u64,
+    under_test: impl FnMut(&[u8], &[u8], &[u8]) -> Answer,
+) -> Report {
+    judge_of(Forms::Tpt(versions), count, seed, under_test)
+}
+
+fn judge_of(
+    forms: Forms,
+    count: usize,
+    seed: u64,
     mut under_test: impl FnMut(&[u8], &[u8], &[u8]) -> Answer,
 ) -> Report {
-    let mut required = answers_seen::required("accepted", versions, JUDGE_CODES);
-    required.extend(["2a", "2b", "2c"].map(String::from));
-    required.extend(limit_names("accepted"));
-    required.extend(starts_seen::required_of_large("accepted", versions));
-    required.extend(marks_seen::required_of_functions("accepted", versions));
-    let mut report = Report::new(required);
-
-    for case in JudgeCases::in_versions(versions, seed, count) {
+    let mut report = Report::new(required_of_judge(forms));
+    for case in JudgeCases::of(forms, seed, count) {
         let (left, right, certificate) = (&case.left, &case.right, &case.certificate);
         let expected = oracle::judge(left, right, certificate);
         let found = under_test(left, right, certificate);
@@ -85,23 +96,60 @@ pub fn judge_in(
 
         report.see_label(case.label);
         let files = Files::certified(left, right, certificate);
-        answers_seen::see(&mut report, "accepted", expected, files);
+        kinds_seen::see(&mut report, expected, files, |left, right| {
+            oracle::tuned::judge(left, right, certificate)[0]
+        });
+        let mut seen = answers_seen::see(&mut report, "accepted", expected, files);
         if expected[0] == 0 {
-            report.see_times("2a", expected[3]);
-            report.see_times("2b", expected[4]);
-            report.see_times("2c", expected[5]);
+            seen.see_times("2a", expected[3]);
+            seen.see_times("2b", expected[4]);
+            seen.see_times("2c", expected[5]);
             for size in [size_names("accepted", left), size_names("accepted", right)].concat() {
-                report.see(size);
+                seen.see(size);
             }
         }
+        see_keys(&mut seen, expected, files, certificate);
     }
     report
+}
+
+fn required_of_judge(forms: Forms) -> Vec<String> {
+    let mut required = of_each_kind(forms, |forms| {
+        let mut required = answers_seen::required("accepted", forms, JUDGE_CODES);
+        required.extend(["2a", "2b", "2c"].map(String::from));
+        required.extend(limit_names("accepted"));
+        required.extend(starts_seen::required_of_large("accepted", forms));
+        required.extend(marks_seen::required_of_functions("accepted", forms));
+        if forms == [Form::TPK] {
+            required.extend(keys_seen::required("accepted"));
+            required.extend(keys_seen::required_of_met());
+            required.extend(keys_seen::required_of_failed());
+        }
+        required
+    });
+    required.extend(kinds_seen::required(forms, &JUDGE_CODES_AFTER_30));
+    required
+}
+
+/// Sees what keys do to an answer of the judge.
+fn see_keys(seen: &mut Seen, answer: Answer, files: Files, certificate: &[u8]) {
+    match answer[0] {
+        0 => {
+            keys_seen::see_success(seen, "accepted", files);
+            keys_seen::see_certificate(seen, files, certificate);
+        }
+        18 | 19 => keys_seen::see_failed(seen, files, certificate, answer),
+        _ => {}
+    }
 }
 
 /// Compares a program with the oracle's on `count` inputs. The closure is given
 /// the standard input and gives what was printed.
 pub fn program(count: usize, seed: u64, mut under_test: impl FnMut(&[u8]) -> String) -> Report {
-    let mut required = answers_seen::required("accepted", VERSIONS, JUDGE_CODES);
+    let mut required = of_each_kind(Forms::All, |forms| {
+        answers_seen::required("accepted", forms, JUDGE_CODES)
+    });
+    required.extend(kinds_seen::required_of_programs());
     required.extend(PROGRAM_FORMS.map(String::from));
     let mut report = Report::new(required);
 
@@ -117,6 +165,9 @@ pub fn program(count: usize, seed: u64, mut under_test: impl FnMut(&[u8]) -> Str
         }
         let [left, right, certificate] = oracle::pieces(&case.input);
         let files = Files::certified(left, right, certificate);
+        kinds_seen::see(&mut report, answer, files, |left, right| {
+            oracle::tuned::judge(left, right, certificate)[0]
+        });
         answers_seen::see(&mut report, "accepted", answer, files);
     }
     report

@@ -2,11 +2,11 @@
 
 use crate::accepted::Accepted;
 use crate::answers_seen::{self, Files};
-use crate::names::SIDES;
-use crate::report::Report;
-use crate::{require_same, starts_seen, JUDGE_CODES};
-use inputs::{ListingCases, PROGRAM_FORMS, VERSIONS};
-use oracle::Line;
+use crate::names::{of_each_kind, SIDES};
+use crate::report::{Report, Seen};
+use crate::{keys_seen, kinds_seen, require_same, starts_seen, JUDGE_CODES};
+use inputs::{Forms, ListingCases, PROGRAM_FORMS};
+use oracle::{Form, Line};
 
 const CLAUSES: [&str; 3] = ["2a", "2b", "2c"];
 
@@ -34,15 +34,19 @@ pub fn listing(count: usize, seed: u64, mut under_test: impl FnMut(&[u8]) -> Str
         report.see(case.label);
         let [left, right, certificate] = oracle::pieces(&case.input);
         let files = Files::certified(left, right, certificate);
-        let answer = match oracle::list(left, right, certificate) {
-            Ok(lines) => {
-                accepted += 1;
-                see_lines(&mut report, &case.input, &lines);
-                [0; 6]
-            }
-            Err(refusal) => refusal,
-        };
-        answers_seen::see(&mut report, "accepted", answer, files);
+        let listed = oracle::list(left, right, certificate);
+        let answer = listed.as_ref().err().copied().unwrap_or([0; 6]);
+        kinds_seen::see(&mut report, answer, files, |left, right| {
+            oracle::tuned::judge(left, right, certificate)[0]
+        });
+        let mut seen = answers_seen::see(&mut report, "accepted", answer, files);
+        if let Ok(lines) = listed {
+            accepted += 1;
+            let accepted = Accepted::of(left, right, certificate);
+            see_lines(&mut seen, &accepted, &lines);
+            keys_seen::see_success(&mut seen, "accepted", files);
+            keys_seen::see_certificate(&mut seen, files, certificate);
+        }
     }
     if 3 * accepted >= count {
         report.see(A_THIRD);
@@ -51,27 +55,36 @@ pub fn listing(count: usize, seed: u64, mut under_test: impl FnMut(&[u8]) -> Str
 }
 
 fn required() -> Vec<String> {
-    let mut required = answers_seen::required("accepted", VERSIONS, JUDGE_CODES);
-    required.extend(starts_seen::required_of_large("accepted", VERSIONS));
+    let mut required = of_each_kind(Forms::All, required_of_kind);
+    required.extend(kinds_seen::required_of_programs());
     required.extend(PROGRAM_FORMS.map(String::from));
-    required.extend([NO_DUTY, ALL_CLAUSES, FULL_SIZE, A_THIRD].map(String::from));
+    required.push(A_THIRD.to_string());
+    required
+}
+
+/// What must be seen of tables of one kind.
+fn required_of_kind(forms: &[Form]) -> Vec<String> {
+    let mut required = answers_seen::required("accepted", forms, JUDGE_CODES);
+    required.extend(starts_seen::required_of_large("accepted", forms));
+    required.extend([NO_DUTY, ALL_CLAUSES, FULL_SIZE].map(String::from));
+    if forms == [Form::TPK] {
+        required.extend(keys_seen::required("accepted"));
+        required.extend(keys_seen::required_of_met());
+    }
     for side in SIDES {
         required.extend(CLAUSES.map(|clause| format!("{side} {clause}")));
-        required.extend(
-            [
-                ("2a", NOT_THE_FIRST),
-                ("2b", NOT_THE_END),
-                ("2c", NOT_THE_FIRST),
-                ("2c", RANK_DECIDES),
-            ]
-            .map(|(clause, special)| format!("{side} {clause}, {special}")),
-        );
+        let mut special = vec![("2b", NOT_THE_END), ("2c", RANK_DECIDES)];
+        // Where steps rise, the first of those from a state has the smallest end.
+        if forms.contains(&Form::tpt(1)) {
+            special.extend([("2a", NOT_THE_FIRST), ("2c", NOT_THE_FIRST)]);
+        }
+        let special = special.into_iter();
+        required.extend(special.map(|(clause, special)| format!("{side} {clause}, {special}")));
     }
     required
 }
 
-fn see_lines(report: &mut Report, input: &[u8], lines: &[Line]) {
-    let files = Accepted::new(input).expect("the input is accepted");
+fn see_lines(seen: &mut Seen, files: &Accepted, lines: &[Line]) {
     let mut clauses = [false; 3];
     for &line in lines {
         let [side, _, _, _, clause, answering] = line;
@@ -80,23 +93,23 @@ fn see_lines(report: &mut Report, input: &[u8], lines: &[Line]) {
         let name = format!("{} {}", SIDES[side as usize], CLAUSES[clause]);
         if clause == 1 {
             if files.end(line) != answering {
-                report.see(format!("{name}, {NOT_THE_END}"));
+                seen.see(format!("{name}, {NOT_THE_END}"));
             }
         } else if files.serving(line)[0] != answering {
-            report.see(format!("{name}, {NOT_THE_FIRST}"));
+            seen.see(format!("{name}, {NOT_THE_FIRST}"));
         }
         if clause == 2 && files.waiting(line).iter().any(|&v| v < answering) {
-            report.see(format!("{name}, {RANK_DECIDES}"));
+            seen.see(format!("{name}, {RANK_DECIDES}"));
         }
-        report.see(name);
+        seen.see(name);
     }
     if lines.is_empty() {
-        report.see(NO_DUTY);
+        seen.see(NO_DUTY);
     }
     if clauses == [true; 3] {
-        report.see(ALL_CLAUSES);
+        seen.see(ALL_CLAUSES);
     }
     if lines.len() == 32_768 {
-        report.see(FULL_SIZE);
+        seen.see(FULL_SIZE);
     }
 }

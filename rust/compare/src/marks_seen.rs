@@ -2,11 +2,11 @@
 //! bits.
 
 use crate::answers_seen::Files;
-use crate::names::{mix_name, mix_names, mixes, SIDES};
-use crate::report::Report;
+use crate::names::{mix_name, mix_names, mixes, of_mix, SIDES};
+use crate::report::Seen;
 use crate::tables::{layout, marks, related, states};
 use crate::Answer;
-use oracle::TableLayout;
+use oracle::{Form, TableLayout};
 
 /// Two marks of which a judge that looked at the low halves alone would accept the pair.
 const EQUAL_LOW_HALVES: &str = "17, equal low halves";
@@ -14,37 +14,36 @@ const EQUAL_LOW_HALVES: &str = "17, equal low halves";
 /// The last mark that 16 bits can tell, and the first that they cannot.
 const LAST_AND_FIRST: [u32; 2] = [65_535, 65_536];
 
-pub fn required(success: &str, versions: &[u16]) -> Vec<String> {
-    let mut required = mix_names("17", versions);
-    required.extend(mix_names(&related_marks(success, 65_535), versions));
+pub fn required(success: &str, forms: &[Form]) -> Vec<String> {
+    let mut required = mix_names("17", forms);
+    required.extend(mix_names(&related_marks(success, 65_535), forms));
     required
 }
 
 /// What must be seen besides of a function itself, which is compared on more inputs than
 /// the programs.
-pub fn required_of_functions(success: &str, versions: &[u16]) -> Vec<String> {
+pub fn required_of_functions(success: &str, forms: &[Form]) -> Vec<String> {
     let mut required = Vec::new();
-    for (left, right) in mixes(versions) {
-        if is_wide(left) || is_wide(right) {
-            required.push(format!("{EQUAL_LOW_HALVES}, versions {left} and {right}"));
+    for (left, right) in mixes(forms) {
+        if is_wide(&left) || is_wide(&right) {
+            required.push(of_mix(EQUAL_LOW_HALVES, left, right));
         }
-        if is_wide(left) && is_wide(right) {
-            let related = related_marks(success, 65_536);
-            required.push(format!("{related}, versions {left} and {right}"));
+        if is_wide(&left) && is_wide(&right) {
+            required.push(of_mix(&related_marks(success, 65_536), left, right));
         }
     }
-    if versions.iter().any(|&version| is_wide(version)) {
+    if forms.iter().any(is_wide) {
         required.extend([differing(65_535, 65_536), differing(65_536, 65_535)]);
-        if !versions.iter().all(|&version| is_wide(version)) {
+        if !forms.iter().all(is_wide) {
             required.extend(SIDES.map(|side| beside_an_older_table(success, side)));
         }
     }
     required
 }
 
-/// Files of this version have marks of 32 bits.
-fn is_wide(version: u16) -> bool {
-    TableLayout::of(version).is_some_and(|layout| layout.mark_width == 4)
+/// Files of this form have marks of 32 bits.
+fn is_wide(form: &Form) -> bool {
+    TableLayout::of(*form).is_some_and(|layout| layout.mark_width == 4)
 }
 
 fn related_marks(success: &str, mark: u32) -> String {
@@ -60,20 +59,20 @@ fn beside_an_older_table(success: &str, side: &str) -> String {
 }
 
 /// Sees the marks of files that were not refused.
-pub fn see_success(report: &mut Report, success: &str, files: Files) {
+pub fn see_success(seen: &mut Seen, success: &str, files: Files) {
     let tables = files.tables();
     let [left, right] = tables.map(marks);
     for mark in LAST_AND_FIRST {
         let mut owns = (0..left.len()).filter(|&s| left[s] == mark);
         if owns.any(|s| (0..states(files.right)).any(|t| related(files.rows, s, t))) {
             let name = related_marks(success, mark);
-            report.see(mix_name(&name, files.left, files.right));
+            seen.see(mix_name(&name, files.left, files.right));
         }
     }
     let widths = tables.map(|table| layout(table).mark_width);
     for (side, marks) in [left, right].iter().enumerate() {
         if widths[1 - side] == 2 && marks.iter().any(|&mark| mark > 65_535) {
-            report.see(beside_an_older_table(success, SIDES[side]));
+            seen.see(beside_an_older_table(success, SIDES[side]));
         }
     }
     assert!(
@@ -92,13 +91,13 @@ fn related_marks_are_equal(files: Files) -> bool {
 }
 
 /// Sees the marks that 17 names.
-pub fn see_refusal(report: &mut Report, answer: Answer, files: Files) {
-    report.see(mix_name("17", files.left, files.right));
+pub fn see_refusal(seen: &mut Seen, answer: Answer, files: Files) {
+    seen.see(mix_name("17", files.left, files.right));
     let left = marks(files.left)[answer[2] as usize];
     let right = marks(files.right)[answer[3] as usize];
     assert_ne!(left, right, "17 is for marks that differ");
-    report.see(differing(left, right));
+    seen.see(differing(left, right));
     if left % 65_536 == right % 65_536 {
-        report.see(mix_name(EQUAL_LOW_HALVES, files.left, files.right));
+        seen.see(mix_name(EQUAL_LOW_HALVES, files.left, files.right));
     }
 }

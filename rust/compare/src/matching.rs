@@ -124,7 +124,7 @@ impl<'a> Given<'a> {
         }
         for pair in written.windows(2) {
             let step = (pair[0].0, pair[1].0);
-            if steps(self.other()).all(|other| other != step) {
+            if steps(self.other()).all(|other| (other.from, other.to) != step) {
                 return Err(format!("{step:?} is no step"));
             }
         }
@@ -151,7 +151,7 @@ impl<'a> Given<'a> {
 
     /// "The other state's path ends in a dead end if the given one does."
     fn require_dead_end(&self, matched: &[Block]) -> Result<(), String> {
-        let is_dead_end = |table, state| steps(table).all(|(from, _)| from != state);
+        let is_dead_end = |table, state| steps(table).all(|step| step.from != state);
         let last = &matched[matched.len() - 1];
         let given = last.given[last.given.len() - 1];
         let written = last.written[last.written.len() - 1];

@@ -1,6 +1,9 @@
 //! Names for what can be seen of an input, whatever is compared.
 
+use crate::report::of_kind;
 use crate::tables::{states, steps, version};
+use inputs::{Forms, VERSIONS};
+use oracle::{Form, Kind};
 
 pub const SIDES: [&str; 2] = ["left", "right"];
 
@@ -17,17 +20,42 @@ pub fn size_names(success: &str, table: &[u8]) -> [String; 2] {
     [format!("{success}, n = {n}"), format!("{success}, m = {m}")]
 }
 
-/// Every mix of these versions on two tables.
-pub fn mixes(versions: &[u16]) -> impl Iterator<Item = (u16, u16)> + '_ {
-    let with_left = |&left| versions.iter().map(move |&right| (left, right));
-    versions.iter().flat_map(with_left)
+/// What must be seen of tables of each kind that is given, from the forms of that kind.
+pub fn of_each_kind(forms: Forms, required: impl Fn(&[Form]) -> Vec<String>) -> Vec<String> {
+    let tpt = |versions: &[u16]| -> Vec<Form> {
+        let versions = versions.iter();
+        versions.map(|&version| Form::tpt(version)).collect()
+    };
+    let kinds = match forms {
+        Forms::Tpt(versions) => vec![(Kind::Tpt, tpt(versions))],
+        Forms::Tpk => vec![(Kind::Tpk, vec![Form::TPK])],
+        Forms::All => vec![(Kind::Tpt, tpt(VERSIONS)), (Kind::Tpk, vec![Form::TPK])],
+    };
+    let mut names = Vec::new();
+    for (kind, forms) in kinds {
+        let required = required(&forms).into_iter();
+        names.extend(required.map(|name| of_kind(kind, name)));
+    }
+    names
+}
+
+/// Every mix of these forms on two tables.
+pub fn mixes(forms: &[Form]) -> impl Iterator<Item = (Form, Form)> + '_ {
+    let with_left = |&left| forms.iter().map(move |&right| (left, right));
+    forms.iter().flat_map(with_left)
 }
 
 /// The names of these mixes.
-pub fn mix_names(what: &str, versions: &[u16]) -> Vec<String> {
-    mixes(versions)
-        .map(|(left, right)| format!("{what}, versions {left} and {right}"))
+pub fn mix_names(what: &str, forms: &[Form]) -> Vec<String> {
+    mixes(forms)
+        .map(|(left, right)| of_mix(what, left, right))
         .collect()
+}
+
+/// The name of this mix.
+pub fn of_mix(what: &str, left: Form, right: Form) -> String {
+    let (left, right) = (left.version, right.version);
+    format!("{what}, versions {left} and {right}")
 }
 
 /// The name of the versions of these two tables.

@@ -3,8 +3,8 @@
 
 use crate::tables::{states, steps};
 use crate::Answer;
-use inputs::{relation_bytes, table_bytes, MakeCases, Random};
-use oracle::{Layout, Step, Table};
+use inputs::{relation_bytes, table_bytes, Forms, MakeCases, Random, VERSIONS};
+use oracle::{Form, Layout, Step, Table};
 use std::thread;
 
 /// A maker, and the judge that is to accept what it makes and nothing that cannot be
@@ -40,7 +40,14 @@ impl Implementation {
             scope.spawn(move || self.check_starts_and_marks().require(1_000));
             scope.spawn(move || self.check_start_words().require(1_000));
             scope.spawn(move || self.check_three_states(100_000).require(1_000));
-            scope.spawn(move || self.check_generated(100_000).require(1_000));
+            let without_keys = Forms::Tpt(VERSIONS);
+            scope.spawn(move || self.check_generated(without_keys, 100_000).require(1_000));
+            scope.spawn(move || self.check_generated(Forms::Tpk, 50_000).require(1_000));
+            scope.spawn(move || self.check_keys(1, 1, 3, 1).require(8));
+            scope.spawn(move || self.check_keys(1, 2, 3, 1).require(100));
+            scope.spawn(move || self.check_keys(2, 1, 3, 1).require(100));
+            scope.spawn(move || self.check_keys(2, 2, 2, 7).require(1_000));
+            scope.spawn(move || self.check_three_states_with_keys(40_000).require(1_000));
         });
     }
 
@@ -57,6 +64,46 @@ impl Implementation {
                     check.system(&left, &right, &relation(n1, n2, pairs));
                 }
             }
+        }
+        check.seen
+    }
+
+    /// All tables of these sizes with the keys 0 to `keys` - 1, the one start 0 and equal
+    /// marks, and one in `apart` of all relations.
+    fn check_keys(self, n1: usize, n2: usize, keys: usize, apart: usize) -> Seen {
+        let mut check = Check::new(self, 7);
+        for left_steps in 0..1 << (keys * n1 * n1) {
+            let left = keyed_table(1, n1, keys, left_steps);
+            for right_steps in 0..1 << (keys * n2 * n2) {
+                let right = keyed_table(1, n2, keys, right_steps);
+                let first = (left_steps + right_steps) % apart;
+                for pairs in (first..1 << (n1 * n2)).step_by(apart) {
+                    check.system(&left, &right, &relation(n1, n2, pairs));
+                }
+            }
+        }
+        check.seen
+    }
+
+    /// A sample of the systems of three states a side with the keys 0, 1 and 2, half of them
+    /// with any starts.
+    fn check_three_states_with_keys(self, count: usize) -> Seen {
+        let mut check = Check::new(self, 8);
+        let mut random = Random::new(!8);
+        for i in 0..count {
+            // Few steps that are nearly the same on both sides, and each state related to the
+            // same one, let the property hold more often.
+            let mut some = |of| random.below(of) & random.below(of);
+            let (steps, changed) = (some(1 << 27), some(1 << 27) & some(1 << 27));
+            let pairs = 0b100_010_001 | some(1 << 9);
+            let starts = if i % 2 == 0 {
+                [1, 1]
+            } else {
+                [some(7) + 1, some(7) + 1]
+            };
+            let left = keyed_table(starts[0], 3, 3, steps);
+            let right = keyed_table(starts[1], 3, 3, steps ^ changed);
+            check.system(&left, &right, &relation(3, 3, pairs));
         }
         check.seen
     }
@@ -104,11 +151,11 @@ impl Implementation {
         check.seen
     }
 
-    /// Those of `count` generated inputs of the maker that are well formed and have
-    /// at most four states a side.
-    fn check_generated(self, count: usize) -> Seen {
+    /// Those of `count` generated inputs of the maker with tables of these forms that are well
+    /// formed and have at most four states a side.
+    fn check_generated(self, forms: Forms, count: usize) -> Seen {
         let mut check = Check::new(self, 4);
-        for case in MakeCases::new(5, count) {
+        for case in MakeCases::of(forms, 5, count) {
             let (left, right, relation) = (&case.left, &case.right, &case.relation);
             let mut output = vec![0; case.output_length];
             let code = oracle::make(left, right, relation, &mut output)[0];
@@ -190,12 +237,32 @@ fn table(starts: usize, marks: &[u32], steps: usize) -> Vec<u8> {
         .map(|pair| Step {
             from: pair / n,
             to: pair % n,
+            key: 0,
         })
         .collect();
     table_bytes(&Table {
-        version,
+        form: Form::tpt(version),
         starts: (0..n).filter(|s| starts >> s & 1 == 1).collect(),
         marks: marks.to_vec(),
+        steps,
+    })
+}
+
+/// The table with keys, n states and equal marks whose starts are the bits of `starts` and
+/// whose steps, which rise, are the bits of `steps`: so many for each two states.
+fn keyed_table(starts: usize, n: usize, keys: usize, steps: usize) -> Vec<u8> {
+    let steps = (0..keys * n * n)
+        .filter(|step| steps >> step & 1 == 1)
+        .map(|step| Step {
+            from: step / keys / n,
+            to: step / keys % n,
+            key: (step % keys) as u8,
+        })
+        .collect();
+    table_bytes(&Table {
+        form: Form::TPK,
+        starts: (0..n).filter(|s| starts >> s & 1 == 1).collect(),
+        marks: vec![0; n],
         steps,
     })
 }

@@ -1,5 +1,6 @@
 //! Counting what was seen.
 
+use oracle::Kind;
 use std::collections::BTreeMap;
 use std::fmt;
 
@@ -30,6 +31,11 @@ impl Report {
         }
     }
 
+    /// What is seen of tables of this kind is told apart.
+    pub fn of(&mut self, kind: Kind) -> Seen<'_> {
+        Seen { report: self, kind }
+    }
+
     pub fn see_label(&mut self, label: &'static str) {
         *self.labels.entry(label).or_default() += 1;
     }
@@ -42,6 +48,35 @@ impl Report {
             .filter(|what| !self.seen.contains_key(*what))
             .collect();
         assert!(missing.is_empty(), "never seen: {missing:?}");
+    }
+}
+
+/// Sees what there is to be seen of tables of one kind.
+pub struct Seen<'a> {
+    report: &'a mut Report,
+    kind: Kind,
+}
+
+impl Seen<'_> {
+    pub fn kind(&self) -> Kind {
+        self.kind
+    }
+
+    pub fn see(&mut self, what: impl AsRef<str>) {
+        self.see_times(what, 1);
+    }
+
+    pub fn see_times(&mut self, what: impl AsRef<str>, times: u64) {
+        self.report.see_times(of_kind(self.kind, what), times);
+    }
+}
+
+/// The name of what is seen of tables of this kind.
+pub fn of_kind(kind: Kind, what: impl AsRef<str>) -> String {
+    let what = what.as_ref();
+    match kind {
+        Kind::Tpt => what.to_string(),
+        Kind::Tpk => format!("TPK: {what}"),
     }
 }
 

@@ -3,11 +3,11 @@
 use crate::accepted::Accepted;
 use crate::answers_seen::{self, Files};
 use crate::matching::{Block, Given};
-use crate::names::SIDES;
+use crate::names::{of_each_kind, SIDES};
 use crate::report::Report;
-use crate::tables::{starts, steps};
+use crate::tables::{has_keys, starts, steps};
 use crate::{marks_seen, starts_seen, Answer, JUDGE_CODES};
-use inputs::{FollowCase, RUN_EDITS, VERSIONS};
+use inputs::{FollowCase, Forms, RUN_EDITS, VERSIONS};
 use oracle::Line;
 
 const OUTPUTS: [&str; 2] = ["first", "second"];
@@ -54,7 +54,7 @@ const SPECIAL_RUNS: [SpecialRun; 12] = [
     ("a dead end at once", |given, blocks| {
         let last = last(blocks);
         let end = last.given[last.given.len() - 1];
-        last.written.len() == 1 && steps(given.own()).all(|(from, _)| from != end)
+        last.written.len() == 1 && steps(given.own()).all(|step| step.from != end)
     }),
     ("256 blocks", |_, blocks| blocks.len() == 256),
     ("a block of 64 states given", |_, blocks| {
@@ -85,10 +85,14 @@ const ORDERS: [[&str; 2]; 6] = [
 const A_THIRD: &str = "followed, at least one in three";
 
 pub fn required() -> Vec<String> {
-    let codes = JUDGE_CODES.into_iter().chain(25..=27);
-    let mut required = answers_seen::required("followed", VERSIONS, codes);
-    required.extend(starts_seen::required_of_large("followed", VERSIONS));
-    required.extend(marks_seen::required_of_functions("followed", VERSIONS));
+    let mut required = of_each_kind(Forms::Tpt(VERSIONS), |forms| {
+        let codes = JUDGE_CODES.into_iter().chain(25..=27);
+        let mut required = answers_seen::required("followed", forms, codes);
+        required.extend(starts_seen::required_of_large("followed", forms));
+        required.extend(marks_seen::required_of_functions("followed", forms));
+        required
+    });
+    required.extend(required_of_keys());
     required.push(A_THIRD.to_string());
     required.extend(RUN_EDITS.iter().map(|(label, _)| label.to_string()));
     required.extend(ORDERS.map(|[first, then]| format!("{first} before {then}")));
@@ -105,10 +109,91 @@ pub fn required() -> Vec<String> {
     required
 }
 
+/// The numbers that the judge has for a table with keys, after 2.
+const KEYED_TABLE_CODES: [u64; 8] = [1, 3, 4, 6, 7, 8, 24, 28];
+
+/// Those that it has for what comes after two tables with keys.
+const AFTER_KEYED_TABLES: [u64; 10] = [10, 11, 12, 13, 14, 15, 16, 17, 18, 19];
+
+const BOTH_ACCEPTED: &str = " 2, two tables with keys that the judge accepts";
+const LEFT_FIRST: &str = "a refusal of the left table before 2 of the right one with keys";
+
+/// "The follower of runs takes TPT only and answers 2 for TPK": what must be seen of this.
+fn required_of_keys() -> Vec<String> {
+    let mut required = [BOTH_ACCEPTED, LEFT_FIRST].map(String::from).to_vec();
+    required.extend(AFTER_KEYED_TABLES.map(before_files));
+    for side in SIDES {
+        required.push(format!(" 1, {side} table with keys under 9 bytes"));
+        required.push(beside_another_kind(side));
+        required.extend(KEYED_TABLE_CODES.map(|code| before_table(side, code)));
+        required.extend([25, 26, 27].map(|code| before_run(side, code)));
+    }
+    required.push(before_right_table());
+    required
+}
+
+fn beside_another_kind(side: &str) -> String {
+    format!(" 2 before 30, {side} table with keys")
+}
+
+fn before_table(side: &str, code: u64) -> String {
+    format!(" 2 before {code} of the same table, {side} table with keys")
+}
+
+fn before_right_table() -> String {
+    " 2 before a refusal of the right table, left table with keys".to_string()
+}
+
+fn before_files(code: u64) -> String {
+    format!(" 2 before {code}, two tables with keys")
+}
+
+fn before_run(side: &str, code: u64) -> String {
+    format!(" 2 before {code}, {side} table with keys")
+}
+
+/// Sees what is answered to tables with keys, and what it comes before.
+fn see_keys(report: &mut Report, case: &FollowCase, [code, file, ..]: Answer) {
+    let tables = [&case.left[..], &case.right];
+    if !answers_seen::refuses_table(code) {
+        assert!(
+            !tables.iter().any(|table| has_keys(table)),
+            "keys are taken"
+        );
+        return;
+    }
+    let (refused, side) = (tables[file as usize], SIDES[file as usize]);
+    if !has_keys(refused) {
+        if file == 0 && has_keys(tables[1]) && tables[1].len() >= 9 {
+            report.see(LEFT_FIRST);
+        }
+        return;
+    }
+    if code == 1 {
+        report.see(format!(" 1, {side} table with keys under 9 bytes"));
+        return;
+    }
+    assert_eq!(code, 2, "a table with keys is read");
+    let [judged, judged_file, ..] = oracle::judge(tables[0], tables[1], &case.certificate);
+    report.see(match judged {
+        0 => BOTH_ACCEPTED.to_string(),
+        30 => beside_another_kind(side),
+        _ if !answers_seen::refuses_table(judged) => before_files(judged),
+        _ if judged_file == file => before_table(side, judged),
+        _ => before_right_table(),
+    });
+    for code in 25..=27 {
+        if case.label.starts_with(&code.to_string()) {
+            report.see(before_run(side, code));
+        }
+    }
+}
+
 /// Sees the answer, the way to it, and what it came before.
 pub fn see_answer(report: &mut Report, case: &FollowCase, answer: Answer) {
     let files = Files::certified(&case.left, &case.right, &case.certificate);
     answers_seen::see(report, "followed", answer, files);
+    see_keys(report, case, answer);
     let number = answer[0].to_string();
     if case.label.split(':').next() == Some(&number) {
         report.see(case.label);
@@ -160,8 +245,8 @@ fn choices(given: &Given, blocks: &[Block]) -> Vec<(&'static str, Vec<&'static s
         choices.push((clause, special(&files, line)));
     }
     for pair in last(blocks).written.windows(2) {
-        let mut from_here = steps(given.other()).filter(|step| step.0 == pair[0]);
-        let is_first = from_here.next() == Some((pair[0], pair[1]));
+        let mut from_here = steps(given.other()).filter(|step| step.from == pair[0]);
+        let is_first = from_here.next().is_some_and(|step| step.to == pair[1]);
         let special = if is_first {
             vec![]
         } else {
@@ -178,7 +263,7 @@ fn choices(given: &Given, blocks: &[Block]) -> Vec<(&'static str, Vec<&'static s
 fn lines(given: &Given, blocks: &[Block]) -> Vec<Line> {
     let line = |s: usize, u: usize, t: usize, clause: usize, answering: usize| {
         let (left, right) = [(s, t), (t, s)][given.side as usize];
-        let step = steps(given.own()).position(|step| step == (s, u));
+        let step = steps(given.own()).position(|step| (step.from, step.to) == (s, u));
         let step = step.expect("neighbours are a step");
         [given.side as usize, left, right, step, clause, answering].map(|number| number as u64)
     };

@@ -2,10 +2,10 @@
 
 use crate::answers_seen::Files;
 use crate::names::SIDES;
-use crate::report::Report;
+use crate::report::Seen;
 use crate::tables::{layout, related, starts, states};
 use crate::Answer;
-use oracle::TableLayout;
+use oracle::{Form, TableLayout};
 
 /// The ways in which a start word is wrong.
 const WRONG_WORDS: [&str; 3] = ["no start", "a start n or more too", "no start below n"];
@@ -55,12 +55,12 @@ fn has_start_word(table: &[u8]) -> bool {
     layout(table).start_word
 }
 
-pub fn required(success: &str, versions: &[u16]) -> Vec<String> {
+pub fn required(success: &str, forms: &[Form]) -> Vec<String> {
     let mut required = Vec::new();
-    if !versions.iter().all(start_word) {
+    if !forms.iter().all(start_word) {
         required.push(BYTES.to_string());
     }
-    if versions.iter().any(start_word) {
+    if forms.iter().any(start_word) {
         required.extend([ONLY, RIGHT_TOO, ONE_BIT].map(String::from));
         required.push(format!("{success}, {SOME_UNRELATED}"));
         for side in SIDES {
@@ -76,9 +76,9 @@ pub fn required(success: &str, versions: &[u16]) -> Vec<String> {
 }
 
 /// What must be seen besides where there are large tables.
-pub fn required_of_large(success: &str, versions: &[u16]) -> Vec<String> {
+pub fn required_of_large(success: &str, forms: &[Form]) -> Vec<String> {
     let mut required = Vec::new();
-    if versions.iter().any(start_word) {
+    if forms.iter().any(start_word) {
         for side in SIDES {
             let special = SPECIAL_LARGE_WORDS.map(|(what, _)| what);
             required.extend(special.map(|what| format!("{success}, {side} table, {what}")));
@@ -87,9 +87,9 @@ pub fn required_of_large(success: &str, versions: &[u16]) -> Vec<String> {
     required
 }
 
-/// Tables of this version have a start word.
-fn start_word(version: &u16) -> bool {
-    TableLayout::of(*version).is_some_and(|layout| layout.start_word)
+/// Tables of this form have a start word.
+fn start_word(form: &Form) -> bool {
+    TableLayout::of(*form).is_some_and(|layout| layout.start_word)
 }
 
 /// In which way this word is wrong.
@@ -102,14 +102,14 @@ pub fn wrong_word(starts: &[usize], n: usize) -> &'static str {
 }
 
 /// Sees the starts of files that were not refused.
-pub fn see_success(report: &mut Report, success: &str, files: Files) {
+pub fn see_success(seen: &mut Seen, success: &str, files: Files) {
     for (side, table) in SIDES.iter().zip(files.tables()) {
         if !has_start_word(table) {
             continue;
         }
         for (what, is_special) in SPECIAL_WORDS.iter().chain(&SPECIAL_LARGE_WORDS) {
             if is_special(table) {
-                report.see(format!("{success}, {side} table, {what}"));
+                seen.see(format!("{success}, {side} table, {what}"));
             }
         }
     }
@@ -118,37 +118,37 @@ pub fn see_success(report: &mut Report, success: &str, files: Files) {
         .iter()
         .any(|&s| right.iter().any(|&t| !related(files.rows, s, t)))
     {
-        report.see(format!("{success}, {SOME_UNRELATED}"));
+        seen.see(format!("{success}, {SOME_UNRELATED}"));
     }
 }
 
 /// Sees which start 16 names, and what else is unpaired.
-pub fn see_refusal(report: &mut Report, answer: Answer, files: Files) {
+pub fn see_refusal(seen: &mut Seen, answer: Answer, files: Files) {
     let tables = files.tables();
     if !tables.iter().any(|table| has_start_word(table)) {
-        report.see(BYTES);
+        seen.see(BYTES);
         return;
     }
     let starts = tables.map(starts);
     if starts.iter().all(|starts| starts.len() == 1) {
-        report.see(ONE_BIT);
+        seen.see(ONE_BIT);
     }
     let unpaired = [0, 1].map(|side| unpaired(files, &starts, side));
     let (side, start) = (answer[2] as usize, answer[3] as usize);
     if side == 0 && !unpaired[1].is_empty() {
-        report.see(RIGHT_TOO);
+        seen.see(RIGHT_TOO);
     }
     let name = format!("16, {} side", SIDES[side]);
     match place(&starts[side], start) {
-        Some(place) => report.see(format!("{name}, {place}")),
-        None => report.see(format!("{name}, the only start")),
+        Some(place) => seen.see(format!("{name}, {place}")),
+        None => seen.see(format!("{name}, the only start")),
     }
     if unpaired[side].len() > 1 {
-        report.see(format!("{name}, {LATER_TOO}"));
+        seen.see(format!("{name}, {LATER_TOO}"));
     }
     let mut others = 0..states(tables[1 - side]);
     if others.any(|other| is_related(files, side, start, other)) {
-        report.see(format!("{name}, {PAIRED_WITH_NO_START}"));
+        seen.see(format!("{name}, {PAIRED_WITH_NO_START}"));
     }
 }
 

@@ -1,10 +1,15 @@
 //! What stands in well-formed tables and in a relation, read from their bytes.
 
-use oracle::TableLayout;
+use oracle::{Kind, Step, TableLayout};
 
-/// The layout that the version of a table gives it.
+/// The layout that the form of a table gives it.
 pub fn layout(table: &[u8]) -> TableLayout {
     TableLayout::of_file(table).expect("the version is known")
+}
+
+/// The steps of this table have keys.
+pub fn has_keys(table: &[u8]) -> bool {
+    Kind::of_file(table) == Some(Kind::Tpk)
 }
 
 pub fn version(table: &[u8]) -> u16 {
@@ -45,12 +50,15 @@ pub fn marks(table: &[u8]) -> Vec<u32> {
     bytes.chunks_exact(layout.mark_width).map(number).collect()
 }
 
-/// The steps, each from and to.
-pub fn steps(table: &[u8]) -> impl Iterator<Item = (usize, usize)> + '_ {
-    let steps = &table[layout(table).step(states(table), 0)..];
-    steps
-        .chunks_exact(2)
-        .map(|step| (step[0] as usize, step[1] as usize))
+/// The steps, in table order.
+pub fn steps(table: &[u8]) -> impl Iterator<Item = Step> + '_ {
+    let layout = layout(table);
+    let steps = &table[layout.step(states(table), 0)..];
+    steps.chunks_exact(layout.step_width).map(|step| Step {
+        from: step[0] as usize,
+        to: step[1] as usize,
+        key: step.get(2).copied().unwrap_or(0),
+    })
 }
 
 /// The left state s and the right state t are related in these rows.

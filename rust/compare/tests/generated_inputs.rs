@@ -5,6 +5,7 @@
 use compare::{Accepted, EnquiryAndCommit};
 use inputs::{all_related, long_chains, long_distances};
 use oracle::Line;
+use std::collections::BTreeMap;
 
 #[test]
 fn the_tuned_judge_equals_the_plain_one() {
@@ -88,32 +89,24 @@ fn every_form_of_program_input_is_seen() {
 
 #[test]
 fn every_choice_of_a_listing_is_seen() {
-    compare::listing(10_000, 9, oracle::listing_program).require_all();
+    compare::listing(20_000, 9, oracle::listing_program).require_all();
 }
 
 #[test]
 fn the_same_seed_gives_the_same_inputs() {
-    let first = compare::judge(3_000, 4, oracle::judge);
-    let again = compare::judge(3_000, 4, oracle::judge);
-    let other = compare::judge(3_000, 5, oracle::judge);
-    assert_eq!(first.seen, again.seen);
-    assert_ne!(first.seen, other.seen);
+    let require = |seen: fn(u64) -> BTreeMap<String, u64>| {
+        let [first, again, other] = [4, 4, 5].map(seen);
+        assert_eq!(first, again);
+        assert_ne!(first, other);
+    };
+    require(|seed| compare::judge(3_000, seed, oracle::tuned::judge).seen);
+    require(|seed| compare::follow(3_000, seed, oracle::tuned_follow::follow).seen);
+    require(|seed| compare::commit(3_000, seed, oracle::tuned_maker::commit).seen);
+    require(|seed| compare::write(3_000, seed, oracle::tuned_write::write).seen);
 
     let inputs = |seed| inputs::ListingCases::new(seed, 3_000).map(|case| case.input);
     assert!(inputs(4).eq(inputs(4)), "the inputs differ");
     assert!(inputs(4).ne(inputs(5)), "the inputs are the same");
-
-    let runs = |seed| compare::follow(3_000, seed, oracle::follow).seen;
-    assert_eq!(runs(4), runs(4));
-    assert_ne!(runs(4), runs(5));
-
-    let commits = |seed| compare::commit(3_000, seed, oracle::tuned_maker::commit).seen;
-    assert_eq!(commits(4), commits(4));
-    assert_ne!(commits(4), commits(5));
-
-    let tables = |seed| compare::write(3_000, seed, oracle::write).seen;
-    assert_eq!(tables(4), tables(4));
-    assert_ne!(tables(4), tables(5));
 }
 
 /// The answer of a judge that accepts everything is found out.
@@ -174,7 +167,7 @@ fn too_few_listings_are_found() {
 
 /// Compares a lister that puts other lines in place of those of an accepted input.
 fn list_wrongly(change: impl Fn(&Accepted, &mut Vec<Line>)) {
-    compare::listing(1_000, 10, |input| {
+    compare::listing(2_000, 10, |input| {
         let Some(files) = Accepted::new(input) else {
             return oracle::listing_program(input);
         };
@@ -237,6 +230,25 @@ fn the_smallest_related_state_for_2c_is_found() {
         let waiting = files.waiting(line).into_iter();
         waiting.min().expect("some state serves")
     });
+}
+
+/// The smallest state to which a step leads that serves, whatever its key.
+fn smallest_whatever_the_key(files: &Accepted, line: Line) -> u64 {
+    let [serving, others] = [files.serving(line), files.serving_but_for_the_key(line)];
+    let states = serving.into_iter().chain(others);
+    states.min().expect("some state serves")
+}
+
+#[test]
+#[should_panic(expected = "the listing differs")]
+fn another_key_for_2a_is_found() {
+    choose_wrongly(1, smallest_whatever_the_key);
+}
+
+#[test]
+#[should_panic(expected = "the listing differs")]
+fn a_step_with_a_key_for_2c_is_found() {
+    choose_wrongly(3, smallest_whatever_the_key);
 }
 
 #[test]

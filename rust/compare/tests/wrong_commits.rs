@@ -2,8 +2,8 @@
 //! every one of them, and what is promised of the two together finds those that break it.
 
 use compare::EnquiryAndCommit;
-use inputs::slip_numbers;
-use oracle::{Answer, Slip};
+use inputs::{save_in, slip_numbers, table_bytes};
+use oracle::{Answer, Form, Kind, Slip};
 use std::panic::{catch_unwind, AssertUnwindSafe};
 
 /// What an enquiry and a commit are given.
@@ -26,6 +26,22 @@ impl<'a> Files<'a> {
     /// The numbers of the inputs, where both tables are well formed.
     fn numbers(&self) -> Option<Slip> {
         slip_numbers(self.left, self.right, self.relation)
+    }
+
+    /// What is answered where the tables are of one kind, or else to the same with keys.
+    fn enquire_in_one_kind(&self) -> Answer {
+        let with_keys = |file| {
+            let mut table = oracle::read_table(file, 0).expect("the table is well formed");
+            save_in(&mut table, Form::TPK);
+            table_bytes(&table)
+        };
+        match self.enquire() {
+            ([30, ..], _) => {
+                let [left, right] = [self.left, self.right].map(with_keys);
+                Files::new(&left, &right, self.relation).enquire().0
+            }
+            (answer, _) => answer,
+        }
     }
 
     fn lengths(&self) -> [u64; 3] {
@@ -117,7 +133,7 @@ fn the_right_ones_are_no_difference() {
 type WrongEnquiry = (&'static str, fn(Files) -> (Answer, Slip));
 
 /// Those with which a promise is broken.
-const ENQUIRIES: [WrongEnquiry; 12] = [
+const ENQUIRIES: [WrongEnquiry; 13] = [
     ("21 is answered", |files| match files.enquire() {
         ([0, 0, length, ..], slip) => ([21, 3, length, 0, 0, 0], slip),
         refused => refused,
@@ -171,6 +187,10 @@ const ENQUIRIES: [WrongEnquiry; 12] = [
         }
         (answer, slip)
     }),
+    ("30 is not looked for", |files| match files.enquire() {
+        ([30, ..], slip) => (files.enquire_in_one_kind(), slip),
+        enquired => enquired,
+    }),
     ("L in 8 bits", |files| {
         let (answer, mut slip) = files.enquire();
         slip[3] %= 256;
@@ -219,6 +239,8 @@ fn a_wrong_enquiry_breaks_a_promise() {
 enum Cause {
     /// The enquiry is refused with one of these numbers.
     Enquiry(&'static [u64]),
+    /// One table has keys and the other has none, whatever else they have.
+    Kinds,
     Slip,
     Output,
 }
@@ -227,7 +249,7 @@ enum Cause {
 #[derive(Clone, Copy)]
 struct Habits {
     /// The causes in the order in which they are tried.
-    order: [Cause; 8],
+    order: [Cause; 9],
     /// Whether the numbers on a slip pass for those of the inputs.
     passes: fn(Slip, Slip) -> bool,
     /// The L that the output must have, from that on the slip and that of the tables.
@@ -239,6 +261,7 @@ struct Habits {
 const RIGHT: Habits = Habits {
     order: [
         Cause::Enquiry(&[1, 2, 3, 4, 5, 6, 7, 8, 9, 24, 28]),
+        Cause::Kinds,
         Cause::Enquiry(&[20]),
         Cause::Enquiry(&[15]),
         Cause::Slip,
@@ -252,9 +275,10 @@ const RIGHT: Habits = Habits {
     refusal: |_, _| [29, 2, 0, 0, 0, 0],
 };
 
-/// Where the two of 29 and 21 stand.
-const SLIP: usize = 3;
-const OUTPUT: usize = 4;
+/// Where 30, 29 and 21 stand.
+const KINDS: usize = 1;
+const SLIP: usize = 4;
+const OUTPUT: usize = 5;
 
 impl Habits {
     fn call(&self, files: Files, slip: Slip, output: &mut [u8]) -> Answer {
@@ -265,10 +289,13 @@ impl Habits {
     }
 
     fn refuse(&self, files: Files, slip: Slip, room: u64) -> Option<Answer> {
-        let (enquired, _) = files.enquire();
+        let enquired = files.enquire_in_one_kind();
+        let kinds = [files.left, files.right].map(Kind::of_file);
+        let are_two = kinds.iter().all(Option::is_some) && kinds[0] != kinds[1];
         let numbers = files.numbers();
         self.order.iter().find_map(|cause| match (cause, numbers) {
             (Cause::Enquiry(codes), _) => codes.contains(&enquired[0]).then_some(enquired),
+            (Cause::Kinds, _) => are_two.then_some([30, 1, 0, 0, 0, 0]),
             // There is no L, and a table is refused.
             (_, None) => None,
             (Cause::Slip, Some(numbers)) => {
@@ -292,11 +319,12 @@ impl Habits {
     }
 }
 
-/// 29 and 21 in every other place. At the first one there is no L yet.
+/// 30, 29 and 21 in every other place. At the first one there is no L yet.
 #[test]
 fn a_wrong_order_is_found() {
-    for from in [SLIP, OUTPUT] {
-        for to in (1..8).filter(|&to| to != from) {
+    for from in [KINDS, SLIP, OUTPUT] {
+        let first = if from == KINDS { 0 } else { 1 };
+        for to in (first..9).filter(|&to| to != from) {
             let habits = RIGHT.moved(from, to);
             let differs = commit_differs(|files, slip, output| habits.call(files, slip, output));
             assert!(differs, "{:?}", habits.order);
@@ -307,7 +335,7 @@ fn a_wrong_order_is_found() {
 /// The zeros of a refused enquiry are enough to tell where 29 is tested.
 #[test]
 fn a_wrong_place_of_29_breaks_a_promise() {
-    for to in (1..8).filter(|&to| to != SLIP) {
+    for to in (1..9).filter(|&to| to != SLIP) {
         let habits = RIGHT.moved(SLIP, to);
         let broken = promise_is_broken(
             |files| files.enquire(),
@@ -443,7 +471,7 @@ fn a_wrong_commit_is_found() {
 /// A byte is written and the inputs then refused, or one after the certificate is cleared.
 #[test]
 fn a_touched_byte_is_found() {
-    for code in [0, 1, 15, 16, 17, 20, 21, 22, 23, 29] {
+    for code in [0, 1, 15, 16, 17, 20, 21, 22, 23, 29, 30] {
         let differs = commit_differs(|files, slip, output| {
             let answer = files.commit(slip, output);
             let place = if code == 0 { answer[2] as usize } else { 0 };

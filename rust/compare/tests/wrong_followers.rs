@@ -2,24 +2,24 @@
 //! one of them, and demand 3 alone those whose paths do not match.
 
 use compare::{Accepted, Given};
-use inputs::FollowCases;
-use oracle::{Answer, TableLayout};
+use inputs::{save_in, table_bytes, FollowCases};
+use oracle::{Answer, Form, Kind, TableLayout};
 use std::panic::{catch_unwind, AssertUnwindSafe};
 
 /// Such a follower, by what is wrong with it.
 type Wrong<F> = (&'static str, F);
 type Follow = fn(&Given, &mut [u8], &mut [u8]) -> Answer;
 
-/// The oracle's follower.
+/// The right follower. The tuned one does what the oracle's does, and is fast.
 fn right(given: &Given, states: &mut [u8], blocks: &mut [u8]) -> Answer {
-    given.ask(oracle::follow, states, blocks)
+    given.ask(oracle::tuned_follow::follow, states, blocks)
 }
 
 /// Whether the comparison with the oracle finds a follower out.
 fn differs(follow: impl Fn(&Given, &mut [u8], &mut [u8]) -> Answer) -> bool {
     let compared = catch_unwind(AssertUnwindSafe(|| {
         compare::follow(
-            3_000,
+            4_000,
             61,
             |left, right, certificate, side, start, path, states, blocks| {
                 let given = Given {
@@ -177,7 +177,7 @@ impl Habits {
     }
 }
 
-/// The steps of a table, each from and to.
+/// The steps of a table without keys, each from and to.
 fn steps(table: &[u8]) -> impl Iterator<Item = (u64, u64)> + '_ {
     let layout = TableLayout::of_file(table).expect("the version is known");
     let steps = table[layout.step(table[5] as usize, 0)..].chunks_exact(2);
@@ -380,6 +380,106 @@ const CALLS: [Wrong<Follow>; 17] = [
     }),
 ];
 
+/// These are wrong about tables with keys.
+const KEYS: [Wrong<Follow>; 9] = [
+    ("tables with keys are taken", |given, states, blocks| {
+        without_keys(given, |given| right(given, states, blocks))
+    }),
+    ("two tables with keys are taken", |given, states, blocks| {
+        let both = [given.left, given.right]
+            .iter()
+            .all(|table| has_keys(table));
+        match both {
+            true => without_keys(given, |given| right(given, states, blocks)),
+            false => right(given, states, blocks),
+        }
+    }),
+    ("30 for tables of two kinds", |given, states, blocks| {
+        judged_first(given, states, blocks, |code| code == 30)
+    }),
+    (
+        "2 after the other causes of a table",
+        |given, states, blocks| {
+            judged_first(given, states, blocks, |code| {
+                matches!(code, 1..=9 | 24 | 28)
+            })
+        },
+    ),
+    (
+        "2 after the certificate's causes",
+        |given, states, blocks| {
+            judged_first(given, states, blocks, |code| (10..=15).contains(&code))
+        },
+    ),
+    ("2 after the judge's causes", |given, states, blocks| {
+        judged_first(given, states, blocks, |code| (10..=19).contains(&code))
+    }),
+    ("2 under 9 bytes", |given, states, blocks| {
+        let [code, file, rest @ ..] = right(given, states, blocks);
+        let refused = [given.left, given.right].get(file as usize).copied();
+        let code = match refused {
+            Some(table) if code == 1 && has_keys(table) => 2,
+            _ => code,
+        };
+        let mut answer = [code, file, 0, 0, 0, 0];
+        answer[2..].copy_from_slice(&rest);
+        answer
+    }),
+    ("3 for a table with keys", |given, states, blocks| {
+        let mut answer = right(given, states, blocks);
+        if answer[0] == 2 && has_keys([given.left, given.right][answer[1] as usize]) {
+            answer[0] = 3;
+        }
+        answer
+    }),
+    ("a right table with keys first", |given, states, blocks| {
+        let answer = right(given, states, blocks);
+        if answer[..2] == [2, 0] && has_keys(given.right) && given.right.len() >= 9 {
+            return [2, 1, 0, 0, 0, 0];
+        }
+        answer
+    }),
+];
+
+fn has_keys(table: &[u8]) -> bool {
+    Kind::of_file(table) == Some(Kind::Tpk)
+}
+
+/// What is answered where the keys of well-formed tables are taken off.
+fn without_keys(given: &Given, mut follow: impl FnMut(&Given) -> Answer) -> Answer {
+    let saved = |file: &[u8]| match oracle::read_table(file, 0) {
+        Ok(mut table) if has_keys(file) => {
+            save_in(&mut table, Form::tpt(4));
+            table_bytes(&table)
+        }
+        _ => file.to_vec(),
+    };
+    let [left, right] = [given.left, given.right].map(saved);
+    let (left, right) = (&left[..], &right[..]);
+    follow(&Given {
+        left,
+        right,
+        ..*given
+    })
+}
+
+/// Where a table with keys is refused, the judge's answer in its place where it has such a
+/// number.
+fn judged_first(
+    given: &Given,
+    states: &mut [u8],
+    blocks: &mut [u8],
+    first: impl Fn(u64) -> bool,
+) -> Answer {
+    let answer = right(given, states, blocks);
+    let judged = oracle::judge(given.left, given.right, given.certificate);
+    if answer[0] == 2 && first(judged[0]) {
+        judged
+    } else {
+        answer
+    }
+}
+
 /// The entries of the first output that a success has written.
 fn entries(answer: Answer, states: &mut [u8]) -> impl Iterator<Item = &mut [u8]> {
     let count = if answer[0] == 0 { answer[2] } else { 0 };
@@ -405,7 +505,7 @@ fn wrong_habits_are_found() {
 
 #[test]
 fn wrong_calls_are_found() {
-    for (name, call) in CALLS {
+    for (name, call) in CALLS.into_iter().chain(KEYS) {
         assert!(differs(call), "{name}");
     }
 }

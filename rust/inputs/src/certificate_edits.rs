@@ -4,6 +4,7 @@
 use crate::random::Random;
 use crate::starts::{any_start, pairs_of_start};
 use crate::system::System;
+use oracle::{Layout, Step, Table};
 
 /// A change to a certificate of a system, and what it is called.
 pub type CertificateEdit = (&'static str, fn(&mut Random, &System, &mut Vec<u8>));
@@ -170,6 +171,52 @@ pub const RANK_EDITS: &[CertificateEdit] = &[
         *bytes = system.certificate_with_any_ranks(random, highest);
     }),
 ];
+
+/// Near-misses where steps have keys: ranks that fall where a key forbids the clause. They
+/// change nothing where no step has one.
+pub const KEY_RANK_EDITS: &[CertificateEdit] = &[
+    (
+        "the A rank falls along a step with a key",
+        |random, system, bytes| {
+            let (layout, side) = (system.layout(), random.below(2));
+            let place = [Layout::al, Layout::ar][side];
+            let Some(step) = some_keyed_step(random, system.table(side)) else {
+                return;
+            };
+            let others = 0..system.table(1 - side).states();
+            let both_related = |&t: &usize| {
+                let related = |own| system.is_related(side, own, t);
+                related(step.from) && related(step.to)
+            };
+            for t in others.filter(both_related) {
+                bytes[place(&layout, step.to, t)] = 0;
+                let rank = &mut bytes[place(&layout, step.from, t)];
+                *rank = rank.saturating_add(1);
+            }
+        },
+    ),
+    (
+        "the C rank falls along a step with a key",
+        |random, system, bytes| {
+            let (layout, side) = (system.layout(), random.below(2));
+            let place = [Layout::cl, Layout::cr][side];
+            let Some(step) = some_keyed_step(random, system.table(1 - side)) else {
+                return;
+            };
+            for j in 0..system.table(side).steps.len() {
+                bytes[place(&layout, j, step.to)] = 0;
+                let rank = &mut bytes[place(&layout, j, step.from)];
+                *rank = rank.saturating_add(1);
+            }
+        },
+    ),
+];
+
+fn some_keyed_step(random: &mut Random, table: &Table) -> Option<Step> {
+    let mut keyed = table.steps.clone();
+    keyed.retain(|step| !step.is_silent());
+    (!keyed.is_empty()).then(|| random.pick(&keyed))
+}
 
 /// Changes after which the judge must answer as before.
 pub const EQUAL_EDITS: &[CertificateEdit] = &[

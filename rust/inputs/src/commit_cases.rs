@@ -62,9 +62,9 @@ impl CommitCases {
                 return other;
             }
         }
-        let (label, slip) = match random.below(3) {
-            0 => (OF_ENQUIRY, enquired),
-            1 => (OF_EARLIER, earlier),
+        let (label, slip) = match random.below(6) {
+            0..=1 => (OF_ENQUIRY, enquired),
+            2..=4 => (OF_EARLIER, earlier),
             _ => (OF_INPUTS, numbers(inputs, measured)),
         };
         (label.to_string(), slip)

@@ -1,60 +1,131 @@
 //! Families of systems. Many of them have the path property, and a good part of
 //! the rest fails to have it only just.
 
+use crate::keys::{any_keys, pick_key, NO_KEYS};
 use crate::marks::renumber_marks;
 use crate::random::Random;
 use crate::split::{relate_copies, split, SplitInto};
 use crate::starts::add_some_starts;
-use crate::system::{save_in, System};
-use oracle::{Step, Table};
+use crate::system::{save_in, Forms, System, VERSIONS};
+use oracle::{Form, Kind, Step, Table};
 
-/// A system from one of the families, each table in one of these versions.
-pub fn any_system(random: &mut Random, versions: &[u16]) -> System {
-    let system = match random.below(100) {
-        0..=9 => random_system(random),
-        10..=34 => pruned_system(random),
-        35..=59 => thinned_system(random),
-        60..=89 => split_system(random),
-        90..=93 => cycles(random),
-        94..=96 => long_system(random),
-        97 => round_trip(random),
-        98 => stepless_system(random),
-        _ if random.percent(25) => all_related(),
-        _ => full_system(random),
-    };
-    in_some_form(random, system, versions)
+/// A system from one of the families, its tables of these forms.
+pub fn any_system(random: &mut Random, forms: Forms) -> System {
+    match forms {
+        Forms::Tpt(versions) => {
+            let system = any_family(random, NO_KEYS);
+            in_some_form(random, system, some_version(versions))
+        }
+        Forms::Tpk => {
+            let keys = any_keys(random);
+            let system = any_family(random, &keys);
+            in_some_form(random, system, |_| Form::TPK)
+        }
+        Forms::All => match random.below(20) {
+            0..=8 => any_system(random, Forms::Tpt(VERSIONS)),
+            9..=17 => any_system(random, Forms::Tpk),
+            _ => of_two_kinds(random),
+        },
+    }
 }
 
-/// Rings with a choice of clauses, each table in one of these versions.
+/// A system from one of the families, the steps of which have keys of these.
+fn any_family(random: &mut Random, keys: &[u8]) -> System {
+    match random.below(100) {
+        0..=9 => random_system(random, keys),
+        10..=34 => pruned_system(random, keys),
+        35..=59 => thinned_system(random, keys),
+        // Without keys these are for the listing and the follower, which look at choices.
+        60..=64 if keys.len() > 1 => layered_system(random, keys),
+        60..=88 => split_system(random, keys),
+        89..=92 => cycles(random, keys),
+        93..=95 => long_system(random, keys),
+        96..=97 => round_trip(random, keys),
+        98 => stepless_system(random),
+        _ if random.percent(25) => all_related_under(four(keys)),
+        _ => full_system(random, keys),
+    }
+}
+
+/// Rings with a choice of clauses, each table without keys in one of these versions.
 pub fn any_pruned_rings(random: &mut Random, versions: &[u16]) -> System {
     let system = pruned_rings(random);
-    in_some_form(random, system, versions)
+    in_some_form(random, system, some_version(versions))
 }
 
-/// A layered system, each table in one of these versions.
-pub fn any_layered_system(random: &mut Random, versions: &[u16]) -> System {
-    let system = layered_system(random);
-    in_some_form(random, system, versions)
+/// A layered system, its tables of this kind, without keys in any version.
+pub fn any_layered_system(random: &mut Random, kind: Kind) -> System {
+    match kind {
+        Kind::Tpt => {
+            let system = layered_system(random, NO_KEYS);
+            in_some_form(random, system, some_version(VERSIONS))
+        }
+        Kind::Tpk => {
+            let keys = any_keys(random);
+            let system = layered_system(random, &keys);
+            in_some_form(random, system, |_| Form::TPK)
+        }
+    }
 }
 
-/// The system or the one with left and right exchanged, each table in one of these
-/// versions, with several starts and with large marks where the version has them.
-fn in_some_form(random: &mut Random, mut system: System, versions: &[u16]) -> System {
+/// The form of one of these versions.
+fn some_version(versions: &[u16]) -> impl Fn(&mut Random) -> Form + '_ {
+    |random| Form::tpt(random.pick(versions))
+}
+
+/// The system or the one with left and right exchanged, each table in such a form, with
+/// several starts and with large marks where the form has them.
+fn in_some_form(
+    random: &mut Random,
+    mut system: System,
+    form: impl Fn(&mut Random) -> Form,
+) -> System {
     if random.percent(50) {
         system = system.exchanged();
     }
     for table in [&mut system.left, &mut system.right] {
-        save_in(table, random.pick(versions));
+        save_in(table, form(random));
     }
     add_some_starts(random, &mut system);
     renumber_marks(random, &mut system);
     system
 }
 
-/// Random tables of at most six states, and a random relation.
-pub fn random_system(random: &mut Random) -> System {
-    let left = random_table(random, 6);
-    let right = random_table(random, 6);
+/// A system of which one table has keys and the other has none. Otherwise they may belong
+/// together: mostly every key is 0.
+fn of_two_kinds(random: &mut Random) -> System {
+    // 9 is a cause of version 1 alone, and 5 of versions 1 and 2.
+    let versions = Forms::Tpt(&[1, 1, 2, 3, 4]);
+    let forms = random.pick(&[versions, versions, Forms::Tpk]);
+    let mut system = any_system(random, forms);
+    let one = if random.percent(50) {
+        &mut system.left
+    } else {
+        &mut system.right
+    };
+    let form = match one.form.kind {
+        Kind::Tpt => Form::TPK,
+        Kind::Tpk => Form::tpt(random.pick(VERSIONS)),
+    };
+    save_in(one, form);
+    system
+}
+
+/// Four of these keys, each as often as the others as far as this goes.
+fn four(keys: &[u8]) -> [u8; 4] {
+    [0, 1, 2, 3].map(|place| keys[place % keys.len()])
+}
+
+/// Random tables of at most six states, and a random relation. With keys they are often
+/// smaller: the fewer duties there are, the more often the one that fails is a near miss.
+pub fn random_system(random: &mut Random, keys: &[u8]) -> System {
+    let most = if keys.len() > 1 && random.percent(70) {
+        2
+    } else {
+        6
+    };
+    let left = random_table(random, most, keys);
+    let right = random_table(random, most, keys);
     let density = random.pick(&[20, 50, 80, 100]);
     let mut related = relation(&left, &right, |_, _| random.percent(density));
     related[left.starts[0]][right.starts[0]] = true;
@@ -67,10 +138,10 @@ pub fn random_system(random: &mut Random) -> System {
 
 /// Random tables, and what pruning leaves of a relation between equal marks. Where
 /// it leaves nothing, other tables are tried.
-pub fn pruned_system(random: &mut Random) -> System {
+pub fn pruned_system(random: &mut Random, keys: &[u8]) -> System {
     some_pruned(|| {
-        let left = random_table(random, 5);
-        let right = random_table(random, 5);
+        let left = random_table(random, 5, keys);
+        let right = random_table(random, 5, keys);
         let density = random.pick(&[70, 100, 100]);
         let related = relation(&left, &right, |s, t| {
             left.marks[s] == right.marks[t] && random.percent(density)
@@ -102,9 +173,9 @@ pub fn pruned_rings(random: &mut Random) -> System {
 }
 
 /// A split system, and what pruning leaves when some pairs have been taken out.
-pub fn thinned_system(random: &mut Random) -> System {
+pub fn thinned_system(random: &mut Random, keys: &[u8]) -> System {
     some_pruned(|| {
-        let mut system = split_system(random);
+        let mut system = split_system(random, keys);
         for row in &mut system.related {
             for pair in row {
                 *pair &= random.percent(85);
@@ -125,8 +196,14 @@ fn some_pruned(mut make: impl FnMut() -> System) -> System {
 }
 
 /// Takes out each pair at which the maker refuses, until it succeeds or no pair is
-/// left. Where the starts go, they are moved to a pair that is still there.
+/// left. Where the starts go, they are moved to a pair that is still there. Tables whose
+/// steps have keys are pruned as such tables.
 fn prune(mut system: System) -> System {
+    let has_keys = |table: &Table| table.steps.iter().any(|step| !step.is_silent());
+    if has_keys(&system.left) || has_keys(&system.right) {
+        save_in(&mut system.left, Form::TPK);
+        save_in(&mut system.right, Form::TPK);
+    }
     loop {
         let ([code, _, a, b, c, _], _) = system.make();
         let (a, b, c) = (a as usize, b as usize, c as usize);
@@ -148,35 +225,38 @@ fn prune(mut system: System) -> System {
 
 /// A small random table, each state of it split into stuttering copies, once for
 /// the left and once for the right; copies of the same state are related.
-pub fn split_system(random: &mut Random) -> System {
-    let small = random_table(random, 4);
+pub fn split_system(random: &mut Random, keys: &[u8]) -> System {
+    let small = random_table(random, 4, keys);
     let extra = random.pick(&[2, 4, 4, 9]);
-    let left = split(random, &small, SplitInto::few(extra));
-    let right = split(random, &small, SplitInto::few(extra));
+    let left = split(random, &small, keys, SplitInto::few(extra));
+    let right = split(random, &small, keys, SplitInto::few(extra));
     relate_copies(left, right)
 }
 
-/// Two cycles; states at the same place, counted in rounds of `round`, are related.
-pub fn cycles(random: &mut Random) -> System {
+/// Two cycles; states at the same place, counted in rounds of `round`, are related, and the
+/// steps from them have the same key.
+pub fn cycles(random: &mut Random, keys: &[u8]) -> System {
     let round = random.within(1, 8);
     let shift = random.below(round);
-    let mut cycle = |states: usize| {
+    let key_at: Vec<u8> = (0..round).map(|_| pick_key(random, keys)).collect();
+    let mut cycle = |states: usize, first: usize| {
         let mut order: Vec<Step> = (0..states)
             .map(|from| Step {
                 from,
                 to: (from + 1) % states,
+                key: key_at[(first + from) % round],
             })
             .collect();
         random.shuffle(&mut order);
         Table {
-            version: 1,
+            form: Form::tpt(1),
             starts: vec![0],
             marks: (0..states).map(|s| (s % round) as u32 * 257).collect(),
             steps: order,
         }
     };
-    let left = cycle(round * (64 / round));
-    let mut right = cycle(round);
+    let left = cycle(round * (64 / round), 0);
+    let mut right = cycle(round, shift);
     right.starts = vec![(round - shift) % round];
     right.marks.rotate_right((round - shift) % round);
     let related = relation(&left, &right, |s, t| s % round == (t + shift) % round);
@@ -189,7 +269,7 @@ pub fn cycles(random: &mut Random) -> System {
 
 /// Long chains and long cycles of copies: one side has 63 or 64 states, the other
 /// few. The ranks become as high as they can.
-pub fn long_system(random: &mut Random) -> System {
+pub fn long_system(random: &mut Random, keys: &[u8]) -> System {
     let steps: &[(usize, usize)] = random.pick(&[
         &[] as &[(usize, usize)],
         &[(0, 0)],
@@ -203,11 +283,16 @@ pub fn long_system(random: &mut Random) -> System {
         .max()
         .unwrap_or(0)
         + 1;
+    let step = |&(from, to): &(usize, usize)| Step {
+        from,
+        to,
+        key: pick_key(random, keys),
+    };
     let small = Table {
-        version: 1,
+        form: Form::tpt(1),
         starts: vec![0],
         marks: (0..states as u32).collect(),
-        steps: steps.iter().map(|&(from, to)| Step { from, to }).collect(),
+        steps: steps.iter().map(step).collect(),
     };
     let long = SplitInto {
         states: (63, 64),
@@ -215,17 +300,25 @@ pub fn long_system(random: &mut Random) -> System {
         steps: (0, 0),
         spare_percent: 0,
     };
-    let left = split(random, &small, long);
-    let right = split(random, &small, SplitInto::few(2));
+    let left = split(random, &small, keys, long);
+    let right = split(random, &small, keys, SplitInto::few(2));
     relate_copies(left, right)
 }
 
 /// Chases with a choice. The right states but one, the goal, stand in layers. They step
-/// ahead within their layer and to the next one, from the last layer to the goal. The
-/// left states but one are related to all of these and step to the last left state,
-/// which is related to the goal only. So at each state before the last layer the steps
-/// to the next layer serve 2c, often several, and those within do not.
-pub fn layered_system(random: &mut Random) -> System {
+/// ahead silently within their layer and to the next one, from the last layer to the goal
+/// with a key. The left states but one are related to all of these and step with this key to
+/// the last left state, which is related to the goal only. So at each state before the last
+/// layer the steps to the next layer serve 2c, often several, and those within do not.
+///
+/// Where there is a second key, there are shortcuts with it. They serve nothing but the steps
+/// with it from each left state to itself, which the last layer's states have too.
+pub fn layered_system(random: &mut Random, keys: &[u8]) -> System {
+    let key = pick_key(random, keys);
+    let second = keys
+        .iter()
+        .copied()
+        .find(|&second| second != key && second != 0);
     let width = random.within(2, 4);
     let goal = width * random.within(2, 63 / width);
     let mut steps = Vec::new();
@@ -234,13 +327,43 @@ pub fn layered_system(random: &mut Random) -> System {
         let sure = goal.min(next_layer + random.below(width));
         for to in from + 1..=goal.min(next_layer + width - 1) {
             if to == sure || random.percent(50) {
-                steps.push(Step { from, to });
+                let key = if to == goal { key } else { 0 };
+                steps.push(Step { from, to, key });
+            }
+        }
+        if let Some(key) = second {
+            let ahead = (from + random.within(1, 2 * width)).min(goal - 1);
+            if next_layer == goal {
+                steps.push(Step {
+                    from,
+                    to: from,
+                    key,
+                });
+            } else if random.percent(25) {
+                steps.push(Step {
+                    from,
+                    to: ahead,
+                    key,
+                });
             }
         }
     }
     let right = renumbered(random, goal, steps);
     let last = random.within(1, 4);
-    let steps = (0..last).map(|from| Step { from, to: last }).collect();
+    let mut steps: Vec<Step> = (0..last)
+        .map(|from| Step {
+            from,
+            to: last,
+            key,
+        })
+        .collect();
+    if let Some(key) = second {
+        steps.extend((0..last).map(|from| Step {
+            from,
+            to: from,
+            key,
+        }));
+    }
     let left = renumbered(random, last, steps);
     let related = relation(&left, &right, |s, t| left.marks[s] == right.marks[t]);
     System {
@@ -262,7 +385,7 @@ fn renumbered(random: &mut Random, last: usize, mut steps: Vec<Step>) -> Table {
     let mut marks = vec![0; last + 1];
     marks[numbers[last]] = 0x0100;
     Table {
-        version: 1,
+        form: Form::tpt(1),
         starts: vec![numbers[random.below(last)]],
         marks,
         steps,
@@ -271,12 +394,16 @@ fn renumbered(random: &mut Random, last: usize, mut steps: Vec<Step>) -> Table {
 
 /// Two states that step to each other, and a cycle. The first state is related to
 /// the whole cycle and the second to one state of it only, so that a step to the
-/// second is chased all the way round: the highest chase rank there can be.
-pub fn round_trip(random: &mut Random) -> System {
+/// second is chased all the way round: the highest chase rank there can be. The step to the
+/// second state and that to the one state may have a key.
+pub fn round_trip(random: &mut Random, keys: &[u8]) -> System {
     let states = random.pick(&[2, 3, 63, 64]);
-    let (left, mut right) = (ring(2), ring(states));
+    let (mut left, mut right) = (ring(2), ring(states));
     right.starts = vec![random.below(states)];
     let met = random.below(states);
+    let key = pick_key(random, keys);
+    left.steps[0].key = key;
+    right.steps[(met + states - 1) % states].key = key;
     let related = relation(&left, &right, |s, t| s == 0 || t == met);
     System {
         left,
@@ -290,9 +417,10 @@ fn ring(states: usize) -> Table {
     let step = |from| Step {
         from,
         to: (from + 1) % states,
+        key: 0,
     };
     Table {
-        version: 1,
+        form: Form::tpt(1),
         starts: vec![0],
         marks: vec![0x0101; states],
         steps: (0..states).map(step).collect(),
@@ -300,36 +428,71 @@ fn ring(states: usize) -> Table {
 }
 
 /// 63 or 64 states on both sides, and up to 255 or 256 steps.
-pub fn full_system(random: &mut Random) -> System {
-    let small = random_table(random, 6);
+pub fn full_system(random: &mut Random, keys: &[u8]) -> System {
+    let small = random_table(random, 6, keys);
     let full = SplitInto {
         states: (63, 64),
         straight: false,
         steps: (255, 256),
         spare_percent: random.pick(&[0, 10, 50, 80]),
     };
-    let left = split(random, &small, full);
-    let right = split(random, &small, full);
+    let left = split(random, &small, keys, full);
+    let right = split(random, &small, keys, full);
     relate_copies(left, right)
 }
 
 /// 64 states with 4 steps each on both sides, one mark, and every pair related: the
 /// longest certificate and the most duties, all of them met by 2a.
 pub fn all_related() -> System {
+    all_related_under([0; 4])
+}
+
+/// The same with keys, a quarter of the steps under each of four: from each state one.
+pub fn all_related_with_keys() -> System {
+    under_keys(all_related_under(FOUR_KEYS))
+}
+
+/// Each state has a step under each of these keys.
+fn all_related_under(keys: [u8; 4]) -> System {
     let step = |j: usize| Step {
         from: j / 4,
         to: (j / 4 + j % 4 + 1) % 64,
+        key: keys[j % 4],
     };
-    let table = Table {
-        version: 1,
-        starts: vec![0],
-        marks: vec![0; 64],
-        steps: (0..256).map(step).collect(),
-    };
+    let table = full_table((0..256).map(step).collect());
     System {
         left: table.clone(),
         right: table,
         related: vec![vec![true; 64]; 64],
+    }
+}
+
+/// The keys of the fullest systems that have some.
+const FOUR_KEYS: [u8; 4] = [0, 1, 2, 255];
+
+/// The system with both tables as tables with keys.
+fn under_keys(mut system: System) -> System {
+    save_in(&mut system.left, Form::TPK);
+    save_in(&mut system.right, Form::TPK);
+    system
+}
+
+/// The fullest systems that have keys, 64 states and 256 steps a side.
+pub fn fullest_with_keys() -> [System; 3] {
+    [
+        all_related_with_keys(),
+        long_chains_with_keys(),
+        long_distances_with_keys(),
+    ]
+}
+
+/// 64 states with one mark and these steps.
+fn full_table(steps: Vec<Step>) -> Table {
+    Table {
+        form: Form::tpt(1),
+        starts: vec![0],
+        marks: vec![0; 64],
+        steps,
     }
 }
 
@@ -338,16 +501,32 @@ pub fn all_related() -> System {
 /// states 0 to 59, which are dead ends; so every left step is unmatched at each of
 /// them. The right steps leave the states 60 to 63, which are related to nothing.
 pub fn long_chains() -> System {
-    let ahead = (1..64).flat_map(|by| (by..64).map(move |to| Step { from: to - by, to }));
-    let all_from = |from| (0..64).map(move |to| Step { from, to });
-    let table = |steps: Vec<Step>| Table {
-        version: 1,
-        starts: vec![0],
-        marks: vec![0; 64],
-        steps,
+    long_chains_under([0; 4])
+}
+
+/// The same with keys. A left step that has a key would have to be matched, so all are
+/// silent; of the right ones a quarter is under each of four keys.
+pub fn long_chains_with_keys() -> System {
+    under_keys(long_chains_under(FOUR_KEYS))
+}
+
+fn long_chains_under(keys: [u8; 4]) -> System {
+    let ahead = (1..64).flat_map(|by| {
+        (by..64).map(move |to| Step {
+            from: to - by,
+            to,
+            key: 0,
+        })
+    });
+    let all_from = |from| {
+        (0..64).map(move |to| Step {
+            from,
+            to,
+            key: keys[to % 4],
+        })
     };
-    let left = table(ahead.take(256).collect());
-    let right = table((60..64).flat_map(all_from).collect());
+    let left = full_table(ahead.take(256).collect());
+    let right = full_table((60..64).flat_map(all_from).collect());
     let related = relation(&left, &right, |_, t| t < 60);
     System {
         left,
@@ -363,33 +542,38 @@ pub fn long_chains() -> System {
 /// steps of the cycle stand first, rising, so that a round of relaxing them settles
 /// one more state only.
 pub fn long_distances() -> System {
+    long_distances_under([0; 4])
+}
+
+/// The same with keys. The left steps that are chased, 160 of them, have four keys, and so
+/// have the steps to the last right state, of which there is one under each; the steps of a
+/// chase are silent.
+pub fn long_distances_with_keys() -> System {
+    under_keys(long_distances_under(FOUR_KEYS))
+}
+
+fn long_distances_under(keys: [u8; 4]) -> System {
+    let silent = |from, to| Step { from, to, key: 0 };
     let steps_at = |i: usize| {
         let to_last = (0..5).map(move |k| Step {
             from: i,
             to: 32 + (i + k) % 32,
+            key: keys[(i + k) % 4],
         });
         let next = (i + 1) % 32;
         let to_all = [(i, next), (32 + i, i), (32 + i, next)];
-        to_last.chain(to_all.map(|(from, to)| Step { from, to }))
+        to_last.chain(to_all.map(|(from, to)| silent(from, to)))
     };
-    let cycle = (0..64).map(|from| Step {
-        from,
-        to: (from + 1) % 64,
+    let cycle = (0..64).map(|from| silent(from, (from + 1) % 64));
+    let further_keys = keys.into_iter().filter(|&key| key != 0);
+    let to_last = further_keys.map(|key| Step {
+        from: 62,
+        to: 63,
+        key,
     });
-    let back = (1..63).flat_map(|by| {
-        (by..63).map(move |from| Step {
-            from,
-            to: from - by,
-        })
-    });
-    let table = |steps: Vec<Step>| Table {
-        version: 1,
-        starts: vec![0],
-        marks: vec![0; 64],
-        steps,
-    };
-    let left = table((0..32).flat_map(steps_at).collect());
-    let right = table(cycle.chain(back).take(256).collect());
+    let back = (1..63).flat_map(|by| (by..63).map(move |from| silent(from, from - by)));
+    let left = full_table((0..32).flat_map(steps_at).collect());
+    let right = full_table(cycle.chain(to_last).chain(back).take(256).collect());
     let related = relation(&left, &right, |s, t| s < 32 || t == 63);
     System {
         left,
@@ -417,7 +601,7 @@ pub fn stepless_system(random: &mut Random) -> System {
     let mut table = || {
         let states = random.pick(&[1, 2, 3, 63, 64]);
         Table {
-            version: 1,
+            form: Form::tpt(1),
             starts: vec![random.below(states)],
             marks: vec![0x0100; states],
             steps: Vec::new(),
@@ -432,22 +616,24 @@ pub fn stepless_system(random: &mut Random) -> System {
     }
 }
 
-/// A table of at most `most` states with few marks and random steps.
-pub fn random_table(random: &mut Random, most: usize) -> Table {
+/// A table of at most `most` states with few marks and random steps under these keys.
+pub fn random_table(random: &mut Random, most: usize, keys: &[u8]) -> Table {
     let states = random.within(1, most);
     let marks_used = random.within(1, 3);
     let density = random.pick(&[10, 25, 40, 70]);
     let mut steps = Vec::new();
     for from in 0..states {
         for to in 0..states {
-            if random.percent(density) {
-                steps.push(Step { from, to });
+            for &key in keys {
+                if random.percent(density) {
+                    steps.push(Step { from, to, key });
+                }
             }
         }
     }
     random.shuffle(&mut steps);
     Table {
-        version: 1,
+        form: Form::tpt(1),
         starts: vec![random.below(states)],
         // Marks that differ in the high byte only, or in the low byte only.
         marks: (0..states)
@@ -475,9 +661,9 @@ mod tests {
     #[test]
     fn certificates_can_be_made() {
         let mut random = Random::new(1);
-        let families: [(&str, fn(&mut Random) -> System); 10] = [
+        let families: [(&str, fn(&mut Random, &[u8]) -> System); 10] = [
             ("pruned", pruned_system),
-            ("pruned rings", pruned_rings),
+            ("pruned rings", |random, _| pruned_rings(random)),
             ("thinned", thinned_system),
             ("split", split_system),
             ("cycles", cycles),
@@ -485,11 +671,18 @@ mod tests {
             ("layered", layered_system),
             ("round trip", round_trip),
             ("full", full_system),
-            ("stepless", stepless_system),
+            ("stepless", |random, _| stepless_system(random)),
         ];
         for (name, family) in families {
-            for _ in 0..100 {
-                let (answer, _) = family(&mut random).make();
+            for i in 0..200 {
+                let system = if i % 2 == 0 {
+                    family(&mut random, NO_KEYS)
+                } else {
+                    let keys = any_keys(&mut random);
+                    let system = family(&mut random, &keys);
+                    in_some_form(&mut random, system, |_| Form::TPK)
+                };
+                let (answer, _) = system.make();
                 assert_eq!(answer[0], 0, "{name}: {answer:?}");
             }
         }
@@ -502,6 +695,9 @@ mod tests {
             (all_related(), [0, 0, 0, 0]),
             (long_chains(), [63, 0, 0, 0]),
             (long_distances(), [0, 0, 63, 0]),
+            (all_related_with_keys(), [0, 0, 0, 0]),
+            (long_chains_with_keys(), [63, 0, 0, 0]),
+            (long_distances_with_keys(), [0, 0, 63, 0]),
         ] {
             let (layout, (answer, made)) = (system.layout(), system.make());
             assert_eq!(answer[..3], [0, 0, 41_483]);
@@ -526,7 +722,8 @@ mod tests {
         let mut random = Random::new(2);
         let mut highest = [0, 0];
         for _ in 0..100 {
-            for system in [long_system(&mut random), round_trip(&mut random)] {
+            let systems = [long_system, round_trip].map(|family| family(&mut random, NO_KEYS));
+            for system in systems {
                 let (layout, (_, made)) = (system.layout(), system.make());
                 let (stutter, chase) = made[layout.al(0, 0)..].split_at(2 * layout.n1 * layout.n2);
                 highest[0] = highest[0].max(stutter.iter().copied().max().unwrap_or(0));
@@ -534,5 +731,27 @@ mod tests {
             }
         }
         assert_eq!(highest, [63, 63]);
+    }
+
+    /// Four keys are in use on both sides, a quarter of the steps under each where nothing
+    /// forbids it.
+    #[test]
+    fn the_fullest_systems_with_keys_have_four() {
+        let counts = |table: &Table| {
+            let of = |key| table.steps.iter().filter(|step| step.key == key).count();
+            FOUR_KEYS.map(of)
+        };
+        for (system, left, right) in [
+            (all_related_with_keys(), [64; 4], [64; 4]),
+            (long_chains_with_keys(), [256, 0, 0, 0], [64; 4]),
+            (
+                long_distances_with_keys(),
+                [136, 40, 40, 40],
+                [253, 1, 1, 1],
+            ),
+        ] {
+            assert_eq!(counts(&system.left), left);
+            assert_eq!(counts(&system.right), right);
+        }
     }
 }

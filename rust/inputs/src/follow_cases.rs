@@ -1,13 +1,14 @@
 //! Inputs for the follower: runs of systems with accepted certificates, each way to each
-//! refusal, and long runs of the fullest systems.
+//! refusal, tables with keys, which it does not take, and long runs of the fullest systems.
 
 use crate::certified::{any_certified, changed, in_all_forms, replace_ranks};
 use crate::families::{all_related, any_pruned_rings, long_chains, long_distances, long_waits};
 use crate::judge_cases::{edit_certificate, edit_table, one_or_two};
 use crate::random::Random;
 use crate::run_edits::{Run, RunEdit, RUN_EDITS};
-use crate::system::{System, VERSIONS};
+use crate::system::{save_in, System, VERSIONS};
 use crate::walks::{walk, Aim};
+use oracle::{Form, Kind};
 
 pub struct FollowCase {
     pub left: Vec<u8>,
@@ -35,7 +36,8 @@ struct Accepted {
     certificate: Vec<u8>,
 }
 
-const CASES_PER_SYSTEM: usize = 8;
+/// The last but one of them has tables with keys.
+const CASES_PER_SYSTEM: usize = 9;
 
 /// Outputs of these lengths serve for every run.
 const MOST: [usize; 2] = [49_152, 512];
@@ -65,6 +67,9 @@ impl Iterator for FollowCases {
         let random = &mut self.random;
         if self.remaining % CASES_PER_SYSTEM == 0 {
             self.accepted = Accepted::any(random);
+        }
+        if self.remaining % CASES_PER_SYSTEM == 1 {
+            return Some(with_keys(random, &self.accepted));
         }
         let run = self.accepted.any_run(random);
         Some(match random.below(10) {
@@ -97,6 +102,36 @@ fn fullest(random: &mut Random) -> Vec<FollowCase> {
 /// What a case is called where nothing is changed.
 const UNCHANGED: &str = "unchanged";
 
+/// What it is called where nothing is wrong with it but that tables have keys.
+const KEYS: &str = "2: tables with keys";
+
+/// A run of tables of which one or both have keys: those of this system with silent steps, or
+/// those of a system with any keys. The judge accepts them where both have keys. In some cases
+/// something else is wrong besides.
+fn with_keys(random: &mut Random, without: &Accepted) -> FollowCase {
+    let keyed = random.pick(&[[true, true], [true, false], [false, true]]);
+    let accepted = if random.percent(50) {
+        without.saved_with_keys(keyed)
+    } else {
+        let (mut system, certificate) = any_certified(random, Kind::Tpk);
+        for (table, keyed) in [&mut system.left, &mut system.right].into_iter().zip(keyed) {
+            if !keyed {
+                save_in(table, Form::tpt(random.pick(VERSIONS)));
+            }
+        }
+        Accepted {
+            system,
+            certificate,
+        }
+    };
+    let run = accepted.run_with_room(random);
+    match random.below(10) {
+        0..=3 => accepted.case(run, KEYS),
+        4..=8 => accepted.with_changed_files(random, run),
+        _ => accepted.with_changed_run(random, run),
+    }
+}
+
 impl Accepted {
     /// A system and the certificate made for it, or another one that is accepted.
     fn any(random: &mut Random) -> Accepted {
@@ -105,7 +140,7 @@ impl Accepted {
             let certificate = system.certificate();
             (system, certificate)
         } else {
-            any_certified(random)
+            any_certified(random, Kind::Tpt)
         };
         if random.percent(30) {
             certificate = changed(random, &system, &certificate);
@@ -120,6 +155,20 @@ impl Accepted {
         }
     }
 
+    /// The same with these tables as tables with keys, whose steps are silent.
+    fn saved_with_keys(&self, keyed: [bool; 2]) -> Accepted {
+        let mut system = self.system.clone();
+        for (table, keyed) in [&mut system.left, &mut system.right].into_iter().zip(keyed) {
+            if keyed {
+                save_in(table, Form::TPK);
+            }
+        }
+        Accepted {
+            system,
+            certificate: self.certificate.clone(),
+        }
+    }
+
     /// The related pairs, the state of this side first.
     fn pairs(&self, side: usize) -> Vec<(usize, usize)> {
         let pairs = self.system.pairs().into_iter();
@@ -128,6 +177,24 @@ impl Accepted {
 
     /// A run from any related pair, with outputs that are just long enough.
     fn any_run(&self, random: &mut Random) -> Run {
+        let (side, start, path) = self.any_path(random);
+        self.run(side, start, path)
+    }
+
+    /// A run from any related pair, with the longest outputs.
+    fn run_with_room(&self, random: &mut Random) -> Run {
+        let (side, start, path) = self.any_path(random);
+        Run {
+            side: side as u64,
+            start: start as u64,
+            path,
+            states_length: MOST[0],
+            blocks_length: MOST[1],
+        }
+    }
+
+    /// A side, a start and a path from a state that is related to it.
+    fn any_path(&self, random: &mut Random) -> (usize, usize, Vec<u8>) {
         let side = random.below(2);
         let table = self.system.table(side);
         let pairs = self.pairs(side);
@@ -145,7 +212,7 @@ impl Accepted {
             _ => random.pick(&[255, 256]),
         };
         let aim = random.pick(&[Aim::Any, Aim::Endless, Aim::DeadEnd]);
-        self.run(side, start, walk(random, table, first, most, aim))
+        (side, start, walk(random, table, first, most, aim))
     }
 
     /// A run from the table's first start, with outputs that are just long enough. Its steps and
@@ -284,8 +351,14 @@ mod tests {
     fn labels_have_the_number_of_the_answer() {
         let mut seen = 0;
         for case in FollowCases::new(1, 10_000) {
+            let mut files = [&case.left, &case.right].into_iter();
+            let has_keys = files.any(|table| table.starts_with(b"TPK"));
             let is_run_edit = RUN_EDITS.iter().any(|(label, _)| *label == case.label);
-            if is_run_edit || case.label == UNCHANGED {
+            if case.label == KEYS {
+                let answer = followed(&case);
+                let file = u64::from(!case.left.starts_with(b"TPK"));
+                assert_eq!(answer, [2, file, 0, 0, 0, 0]);
+            } else if !has_keys && (is_run_edit || case.label == UNCHANGED) {
                 let code = followed(&case)[0];
                 let said = case
                     .label

@@ -1,11 +1,12 @@
 //! Inputs for the listing program: those of the judge's program, many more that are
 //! accepted, and the fullest systems.
 
-use crate::certified::{any_certified, changed, in_all_forms};
-use crate::families::{all_related, long_chains, long_distances};
+use crate::certified::{any_certified, changed, in_all_forms, replace_ranks};
+use crate::families::{all_related, fullest_with_keys, long_chains, long_distances};
 use crate::program_cases::{input_of_form, ProgramCase, ProgramCases, PROGRAM_FORMS};
 use crate::random::Random;
 use crate::system::System;
+use oracle::Kind;
 
 /// Gives `count` inputs for the listing program, the fullest systems last.
 pub struct ListingCases {
@@ -30,7 +31,10 @@ impl ListingCases {
         let mut random = Random::new(seed ^ (1 << 63));
         let made = made(&mut random);
         let fullest = [long_distances(), long_chains(), all_related()];
-        let fullest = in_all_forms(&mut random, &fullest);
+        let mut fullest = in_all_forms(&mut random, &fullest);
+        for system in fullest_with_keys() {
+            fullest.extend([system.clone(), system.exchanged()]);
+        }
         ListingCases {
             random,
             program_cases: ProgramCases::new(seed, count),
@@ -79,7 +83,11 @@ impl Iterator for ListingCases {
 
 /// A system for which a certificate can be made.
 fn made(random: &mut Random) -> Made {
-    let (system, certificate) = any_certified(random);
+    let kind = random.pick(&Kind::ALL);
+    let (system, mut certificate) = any_certified(random, kind);
+    if kind == Kind::Tpk && random.percent(50) {
+        replace_ranks(random, &system, &mut certificate);
+    }
     Made {
         system,
         certificate,

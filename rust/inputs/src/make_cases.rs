@@ -5,8 +5,8 @@ use crate::certificate_edits::set_bit_too_high;
 use crate::families::any_system;
 use crate::judge_cases::edit_table;
 use crate::random::Random;
-use crate::system::{System, VERSIONS};
-use crate::system_edits::SYSTEM_EDITS;
+use crate::system::{Forms, System};
+use crate::system_edits::edit_system;
 
 pub struct MakeCase {
     pub left: Vec<u8>,
@@ -20,7 +20,7 @@ pub struct MakeCase {
 
 /// Gives `count` inputs for the maker. Each system serves for several of them.
 pub struct MakeCases {
-    versions: &'static [u16],
+    forms: Forms,
     random: Random,
     remaining: usize,
     system: System,
@@ -30,15 +30,15 @@ const CASES_PER_SYSTEM: usize = 6;
 
 impl MakeCases {
     pub fn new(seed: u64, count: usize) -> MakeCases {
-        MakeCases::in_versions(VERSIONS, seed, count)
+        MakeCases::of(Forms::All, seed, count)
     }
 
-    /// Those whose tables, before a change to their bytes, are of these versions.
-    pub fn in_versions(versions: &'static [u16], seed: u64, count: usize) -> MakeCases {
+    /// Those whose tables, before a change to their bytes, are of these forms.
+    pub fn of(forms: Forms, seed: u64, count: usize) -> MakeCases {
         let mut random = Random::new(seed);
-        let system = any_system(&mut random, versions);
+        let system = any_system(&mut random, forms);
         MakeCases {
-            versions,
+            forms,
             random,
             remaining: count,
             system,
@@ -55,16 +55,14 @@ impl Iterator for MakeCases {
         }
         self.remaining -= 1;
         if self.remaining % CASES_PER_SYSTEM == 0 {
-            self.system = any_system(&mut self.random, self.versions);
+            self.system = any_system(&mut self.random, self.forms);
         }
 
         let random = &mut self.random;
         let mut system = self.system.clone();
         let mut label = "unchanged";
         for _ in 0..random.pick(&[0, 0, 1, 1, 1, 2]) {
-            let (system_label, edit) = random.pick(SYSTEM_EDITS);
-            edit(random, &mut system);
-            label = system_label;
+            label = edit_system(random, &mut system);
         }
         let mut left = system.left_bytes();
         let mut right = system.right_bytes();
@@ -72,10 +70,12 @@ impl Iterator for MakeCases {
         if random.percent(15) {
             label = edit_relation(random, &system, &mut relation);
         }
-        if random.percent(12) {
+        // Tables of two kinds are refused in any case, and a cause of a table comes first.
+        let table_percent = if system.is_of_one_kind() { 12 } else { 30 };
+        if random.percent(table_percent) {
             label = edit_table(random, &mut left);
         }
-        if random.percent(12) {
+        if random.percent(table_percent) {
             label = edit_table(random, &mut right);
         }
         let output_length = output_length(random, system.layout().length());

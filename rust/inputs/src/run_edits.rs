@@ -78,10 +78,7 @@ pub const RUN_EDITS: &[RunEdit] = &[
         let first = run.path[0] as usize;
         let others = 0..system.table(run.other()).states();
         let unrelated: Vec<usize> = others
-            .filter(|&other| {
-                let (s, t) = [(first, other), (other, first)][run.own()];
-                !system.related[s][t]
-            })
+            .filter(|&other| !system.is_related(run.own(), first, other))
             .collect();
         if !unrelated.is_empty() {
             run.start = random.pick(&unrelated) as u64;

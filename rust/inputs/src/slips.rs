@@ -2,7 +2,7 @@
 
 use crate::random::Random;
 use crate::system::{save_in, table_bytes};
-use oracle::{read_table, Layout, Slip, Table};
+use oracle::{read_table, Form, Layout, Slip, Step, Table};
 
 /// What the numbers of a slip are called.
 const PLACES: [&str; 4] = ["left length", "right length", "relation's length", "L"];
@@ -92,28 +92,35 @@ impl Measured {
         })
     }
 
-    /// The numbers of files as long, with one right state more for as many bytes of steps.
+    /// The numbers of files as long, with more right states for as many bytes of steps.
     fn with_greater_l(&self) -> Slip {
         let mut right = self.right.clone();
-        let fewer = right.layout().mark_width / 2;
-        if right.states() < 64 && right.steps.len() >= fewer {
-            right.marks.push(0);
-            right.steps.truncate(right.steps.len() - fewer);
+        let (states, steps) = as_long(&right);
+        if right.states() + states <= 64 && right.steps.len() >= steps {
+            right.marks.resize(right.states() + states, 0);
+            right.steps.truncate(right.steps.len() - steps);
         }
         self.with_tables(&self.left, &right)
     }
 
     /// The numbers of files as long, with marks of four bytes in place of two for as many
-    /// bytes of steps.
+    /// bytes of steps, or where there are keys with fewer right states for as many.
     fn with_less_l(&self) -> Slip {
-        let [left, right] = [&self.left, &self.right].map(|table| {
+        let [left, mut right] = [&self.left, &self.right].map(|table| {
             let mut table = table.clone();
-            if table.version == 3 && table.steps.len() >= table.states() {
+            if table.form == Form::tpt(3) && table.steps.len() >= table.states() {
                 table.steps.truncate(table.steps.len() - table.states());
-                save_in(&mut table, 4);
+                save_in(&mut table, Form::tpt(4));
             }
             table
         });
+        let (states, steps) = as_long(&right);
+        let more = right.steps.len() + steps;
+        if right.form == Form::TPK && right.states() > states && more <= 256 {
+            right.marks.truncate(right.states() - states);
+            let silent = |from, to| Step { from, to, key: 0 };
+            right.steps.resize(more, silent(0, 0));
+        }
         self.with_tables(&left, &right)
     }
 
@@ -138,6 +145,15 @@ impl Measured {
     }
 }
 
+/// The fewest states and steps that have as many bytes in this table.
+fn as_long(table: &Table) -> (usize, usize) {
+    let layout = table.layout();
+    match (layout.mark_width, layout.step_width) {
+        (marks, 2) => (1, marks / 2),
+        (marks, steps) => (steps, marks),
+    }
+}
+
 /// "the lengths of the three inputs and L"
 fn numbers(left: &Table, right: &Table, relation_length: usize) -> Slip {
     let lengths = [left, right].map(|table| table_bytes(table).len());
@@ -153,7 +169,7 @@ mod tests {
     /// The two slips of files as long have three right numbers, and L is as they say.
     #[test]
     fn files_as_long_differ_in_l_alone() {
-        let mut seen = [0, 0];
+        let mut seen = [[0, 0]; 2];
         for case in MakeCases::new(1, 3_000) {
             let Some(inputs) = Measured::read(&case.left, &case.right, &case.relation) else {
                 continue;
@@ -164,9 +180,11 @@ mod tests {
             }
             let l = inputs.numbers[3];
             assert!(less[3] <= l && l <= greater[3]);
-            seen[0] += usize::from(l < greater[3]);
-            seen[1] += usize::from(less[3] < l);
+            let kind = usize::from(inputs.right.form == Form::TPK);
+            seen[kind][0] += usize::from(l < greater[3]);
+            seen[kind][1] += usize::from(less[3] < l);
         }
-        assert!(seen.iter().all(|&times| times > 300), "{seen:?}");
+        let enough = seen.iter().flatten().all(|&times| times > 200);
+        assert!(enough, "{seen:?}");
     }
 }

@@ -1,8 +1,9 @@
 //! Splitting the states of a small table into stuttering copies.
 
+use crate::keys::pick_key;
 use crate::random::Random;
 use crate::system::System;
-use oracle::{Step, Table};
+use oracle::{Form, Step, Table};
 
 /// What to split a small table into. The pairs are a least and a greatest number.
 #[derive(Clone, Copy)]
@@ -37,10 +38,10 @@ pub struct Copies {
 }
 
 /// Splits a small table. The copies of a state are in an order, and step forward
-/// in it, so that every copy reaches the last one; the last copy has a step for
-/// each step of the small state. Two tables made from the same small one have the
-/// path property between copies of the same state.
-pub fn split(random: &mut Random, small: &Table, into: SplitInto) -> Copies {
+/// in it silently, so that every copy reaches the last one; the last copy has a step for
+/// each step of the small state, with its key. Two tables made from the same small one have
+/// the path property between copies of the same state. Further steps have one of these keys.
+pub fn split(random: &mut Random, small: &Table, keys: &[u8], into: SplitInto) -> Copies {
     let states = random
         .within(into.states.0, into.states.1)
         .max(small.states());
@@ -66,6 +67,7 @@ pub fn split(random: &mut Random, small: &Table, into: SplitInto) -> Copies {
         let step = Step {
             from: random.below(states),
             to: random.below(states),
+            key: pick_key(random, keys),
         };
         if steps.len() < wanted
             && is_harmless(small, &copy_of, &place, step)
@@ -75,7 +77,7 @@ pub fn split(random: &mut Random, small: &Table, into: SplitInto) -> Copies {
         }
     }
     // Steps in order let the last step leave the last state.
-    steps.sort_by_key(|step| (step.from, step.to));
+    steps.sort();
     if random.percent(70) {
         random.shuffle(&mut steps);
     }
@@ -90,7 +92,7 @@ pub fn split(random: &mut Random, small: &Table, into: SplitInto) -> Copies {
         .collect();
     Copies {
         table: Table {
-            version: 1,
+            form: Form::tpt(1),
             starts: vec![random.pick(&starts)],
             marks,
             steps,
@@ -144,27 +146,28 @@ fn needed_steps(
             steps.push(Step {
                 from,
                 to: line[next],
+                key: 0,
             });
         }
         let from = line[line.len() - 1];
         for j in small.steps_from(original) {
-            let targets = copies(copy_of, place, small.steps[j].to);
-            let to = random.pick(&targets);
-            steps.push(Step { from, to });
+            let Step { to, key, .. } = small.steps[j];
+            let to = random.pick(&copies(copy_of, place, to));
+            steps.push(Step { from, to, key });
         }
     }
     steps
 }
 
-/// A step that follows a step of the small table, that goes forward among the
+/// A step that follows a step of the small table, that goes forward silently among the
 /// copies of one state, or that leaves a spare state.
 fn is_harmless(small: &Table, copy_of: &[Option<usize>], place: &[usize], step: Step) -> bool {
     match (copy_of[step.from], copy_of[step.to]) {
         (None, _) => true,
         (Some(_), None) => false,
         (Some(from), Some(to)) => {
-            small.steps.contains(&Step { from, to })
-                || (from == to && place[step.from] < place[step.to])
+            let forward = from == to && place[step.from] < place[step.to];
+            small.steps.contains(&Step { from, to, ..step }) || (forward && step.is_silent())
         }
     }
 }

@@ -1,14 +1,15 @@
 //! Two tables and a relation, and how they are written as files.
 
+use crate::keys::take_keys_off;
 use crate::marks::greatest_mark;
 use crate::program_cases::joined;
 use crate::random::Random;
 use crate::starts::add_all_starts;
-use oracle::{Layout, Step, Table};
+use oracle::{Form, Kind, Layout, Step, Table};
 
 type Make = fn(&[u8], &[u8], &[u8], &mut [u8]) -> [u64; 6];
 
-#[derive(Clone)]
+#[derive(Clone, PartialEq, Eq)]
 pub struct System {
     pub left: Table,
     pub right: Table,
@@ -36,6 +37,19 @@ impl System {
     /// The table of a side, 0 left and 1 right.
     pub fn table(&self, side: usize) -> &Table {
         [&self.left, &self.right][side]
+    }
+
+    pub fn table_mut(&mut self, side: usize) -> &mut Table {
+        match side {
+            0 => &mut self.left,
+            _ => &mut self.right,
+        }
+    }
+
+    /// A state of this side and one of the other are related.
+    pub fn is_related(&self, side: usize, own: usize, other: usize) -> bool {
+        let (s, t) = [(own, other), (other, own)][side];
+        self.related[s][t]
     }
 
     /// The related pairs, left state first.
@@ -105,13 +119,38 @@ impl System {
         for &left in VERSIONS {
             for &right in VERSIONS {
                 let mut system = self.clone();
-                save_in(&mut system.left, left);
-                save_in(&mut system.right, right);
+                save_in(&mut system.left, Form::tpt(left));
+                save_in(&mut system.right, Form::tpt(right));
                 add_all_starts(&mut system);
                 systems.push(system);
             }
         }
         systems
+    }
+
+    /// The same system with all the starts that are then paired.
+    pub fn with_all_starts(mut self) -> System {
+        add_all_starts(&mut self);
+        self
+    }
+
+    /// Both tables have keys.
+    pub fn has_keys(&self) -> bool {
+        self.is_of_one_kind() && self.left.form.kind == Kind::Tpk
+    }
+
+    pub fn is_of_one_kind(&self) -> bool {
+        self.left.form.kind == self.right.form.kind
+    }
+
+    /// The same system with both tables as tables with keys, where their kinds differ.
+    pub fn in_one_kind(&self) -> System {
+        let mut system = self.clone();
+        if !self.is_of_one_kind() {
+            save_in(&mut system.left, Form::TPK);
+            save_in(&mut system.right, Form::TPK);
+        }
+        system
     }
 
     /// The same system with left and right exchanged.
@@ -127,14 +166,29 @@ impl System {
     }
 }
 
-/// The versions of a table.
+/// The versions of a table without keys.
 pub const VERSIONS: &[u16] = &[1, 2, 3, 4];
 
-/// Puts a table into a version. The steps are sorted where they must rise; the first start
-/// alone and the low half of a mark are kept where there is no room for more.
-pub fn save_in(table: &mut Table, version: u16) {
-    table.version = version;
+/// Of which forms the tables of a system are.
+#[derive(Clone, Copy, Debug, PartialEq, Eq)]
+pub enum Forms {
+    /// Both without keys, each in one of these versions.
+    Tpt(&'static [u16]),
+    /// Both with keys.
+    Tpk,
+    /// Both without keys in any versions, both with keys, or one of each.
+    All,
+}
+
+/// Puts a table into a form. The steps are sorted where they must rise; the first start
+/// alone, the low half of a mark, and of steps that differ in their key only the first are
+/// kept where there is no room for more.
+pub fn save_in(table: &mut Table, form: Form) {
+    table.form = form;
     let layout = table.layout();
+    if form.kind == Kind::Tpt {
+        take_keys_off(&mut table.steps);
+    }
     if layout.rising {
         table.steps.sort();
     }
@@ -148,22 +202,23 @@ pub fn save_in(table: &mut Table, version: u16) {
 }
 
 pub fn table_bytes(table: &Table) -> Vec<u8> {
-    let mut bytes = b"TPT".to_vec();
-    bytes.extend(table.version.to_be_bytes());
+    let layout = table.layout();
+    let mut bytes = table.form.kind.bytes().to_vec();
+    bytes.extend(table.form.version.to_be_bytes());
     bytes.push(table.states() as u8);
-    if table.layout().start_word {
+    if layout.start_word {
         let word: u64 = table.starts.iter().map(|&s| 1u64 << s).sum();
         bytes.extend(word.to_be_bytes());
     } else {
         bytes.push(table.starts[0] as u8);
     }
     bytes.extend((table.steps.len() as u16).to_be_bytes());
-    let unused = 4 - table.layout().mark_width;
+    let unused = 4 - layout.mark_width;
     for mark in &table.marks {
         bytes.extend(&mark.to_be_bytes()[unused..]);
     }
-    for &Step { from, to } in &table.steps {
-        bytes.extend([from as u8, to as u8]);
+    for &Step { from, to, key } in &table.steps {
+        bytes.extend(&[from as u8, to as u8, key][..layout.step_width]);
     }
     bytes
 }

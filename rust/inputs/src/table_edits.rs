@@ -4,9 +4,10 @@
 //! Two may be made, the later one in the list first.
 
 use crate::byte_edits::ByteEdit;
+use crate::keys::another_key;
 use crate::random::Random;
 use crate::system::VERSIONS;
-use oracle::TableLayout;
+use oracle::{Form, Kind, TableLayout};
 
 pub const TABLE_EDITS: &[ByteEdit] = &[
     ("1: table under 9 bytes", |random, table| {
@@ -16,14 +17,29 @@ pub const TABLE_EDITS: &[ByteEdit] = &[
         table[random.below(3)] ^= 1 << random.below(8);
     }),
     ("3: version", |random, table| {
-        let version = random.pick(&[0, 5, 256, 257, 258, 259, 260, 65_535]);
+        let unknown = [0, 5, 256, 257, 258, 259, 260, 65_535];
+        let version = if has_keys(table) && random.percent(60) {
+            random.pick(&[2, 3, 4])
+        } else {
+            random.pick(&unknown)
+        };
         put_version(table, version);
     }),
     ("the number of another version alone", |random, table| {
         put_version(table, random.pick(VERSIONS));
     }),
+    ("the name of the other kind alone", |_, table| {
+        let kind = if has_keys(table) {
+            Kind::Tpt
+        } else {
+            Kind::Tpk
+        };
+        table[..3].copy_from_slice(kind.bytes());
+    }),
     ("1: a start word and under 16 bytes", |random, table| {
-        put_version(table, random.pick(&[3, 4]));
+        if !has_keys(table) {
+            put_version(table, random.pick(&[3, 4]));
+        }
         table.truncate(random.within(9, 15));
     }),
     ("4: n", |random, table| {
@@ -62,13 +78,17 @@ pub const TABLE_EDITS: &[ByteEdit] = &[
             table.pop();
         }
         1 => table.push(0),
-        2 => table.extend([0, 0]),
+        2 => table.extend(vec![0; layout(table).step_width]),
         _ => table.truncate(random.within(layout(table).header, table.len() - 1)),
     }),
     ("7: marks of the other width", |_, table| {
         let marks = marks(table);
         let width = 6 - layout(table).mark_width;
         replace_marks(table, &marks, width);
+    }),
+    ("7: steps of the other width", |_, table| {
+        let (steps, width) = (step_list(table), 5 - layout(table).step_width);
+        put_steps(table, &steps, width);
     }),
     ("7: one step more than m", |_, table| {
         let m = steps(table) + 1;
@@ -93,21 +113,41 @@ pub const TABLE_EDITS: &[ByteEdit] = &[
         "9 or 24: a step equal to the one before it",
         |random, table| {
             if let Some(later) = any_later_step(random, table) {
-                table.copy_within(later - 2..later, later);
+                let width = layout(table).step_width;
+                table.copy_within(later - width..later, later);
             }
         },
     ),
     ("24: two neighbours exchanged", |random, table| {
         if let Some(later) = any_later_step(random, table) {
-            table[later - 2..later + 2].rotate_left(2);
+            let width = layout(table).step_width;
+            table[later - width..later + width].rotate_left(width);
         }
     }),
     (
         "24: the steps of version 1 in a later version",
         |random, table| {
-            set_version(table, random.pick(&[2, 3, 4]));
+            if !has_keys(table) {
+                set_version(table, random.pick(&[2, 3, 4]));
+            }
         },
     ),
+    (
+        "24: two ends again with a key that does not rise",
+        |random, table| {
+            if let Some(later) = any_later_step(random, table).filter(|_| has_keys(table)) {
+                let [from, to, key] = [3, 2, 1].map(|before| table[later - before]);
+                let key = random.within(0, key as usize) as u8;
+                table[later..later + 3].copy_from_slice(&[from, to, key]);
+            }
+        },
+    ),
+    ("24: steps that rise by from, key, to", |_, table| {
+        sort_keyed(table, |[from, to, key]| [from, key, to])
+    }),
+    ("24: steps that rise by key, from, to", |_, table| {
+        sort_keyed(table, |[from, to, key]| [key, from, to])
+    }),
 ];
 
 /// Changes after which the table is still well formed.
@@ -120,27 +160,40 @@ pub const TABLE_RESIZES: &[ByteEdit] = &[
         table[5] = n as u8;
     }),
     ("m raised to 255 or 256", |random, table| {
-        let (n, wanted) = (states(table), random.pick(&[255, 256]));
-        let first_step = first_step(table);
-        let mut m = steps(table);
-        for pair in 0..n * n {
-            let step = [(pair / n) as u8, (pair % n) as u8];
-            let present = table[first_step..].chunks(2).any(|other| other == step);
-            if m < wanted && !present {
-                table.extend(step);
-                m += 1;
+        let (n, wanted) = (states(table) as u8, random.pick(&[255, 256]));
+        let first_key = if has_keys(table) { random.byte() } else { 0 };
+        let keys = if has_keys(table) { 256 } else { 1 };
+        let mut steps = step_list(table);
+        for step in (0..keys).flat_map(|key| {
+            let key = first_key.wrapping_add(key as u8);
+            (0..n).flat_map(move |from| (0..n).map(move |to| [from, to, key]))
+        }) {
+            if steps.len() < wanted && !steps.contains(&step) {
+                steps.push(step);
             }
         }
-        set_steps(table, m);
-        if layout(table).rising {
-            sort_steps(table);
-        }
+        replace_steps(table, steps);
     }),
     ("the same table in another version", |random, table| {
-        set_version(table, random.pick(VERSIONS));
-        if layout(table).rising {
-            sort_steps(table);
+        if !has_keys(table) {
+            set_version(table, random.pick(VERSIONS));
+            sort_if_rising(table);
         }
+    }),
+    ("the same table of the other kind", |random, table| {
+        let mut steps = step_list(table);
+        if has_keys(table) {
+            steps.iter_mut().for_each(|step| step[2] = 0);
+            steps.dedup();
+            let version = random.pick(&[3, 4]);
+            let (marks, width) = (marks(table), 2 * version - 4);
+            replace_marks(table, &marks, width);
+            put_form(table, Form::tpt(version as u16));
+        } else {
+            set_version(table, 4);
+            put_form(table, Form::TPK);
+        }
+        replace_steps(table, steps);
     }),
     ("another start", |random, table| {
         let start = random.below(states(table));
@@ -193,6 +246,37 @@ pub const MARK_EDITS: &[ByteEdit] = &[
     }),
 ];
 
+/// Changes of keys, after which the table is still well formed. They change nothing where
+/// there are none.
+pub const KEY_EDITS: &[ByteEdit] = &[
+    ("another key", |random, table| {
+        change_key(random, table, another_key)
+    }),
+    ("a key taken off", |random, table| {
+        change_key(random, table, |_, _| 0)
+    }),
+    ("a step again with another key", |random, table| {
+        let mut steps = step_list(table);
+        if has_keys(table) && (1..256).contains(&steps.len()) {
+            let [from, to, key] = random.pick(&steps);
+            steps.push([from, to, another_key(random, key)]);
+            replace_steps(table, steps);
+        }
+    }),
+    ("all keys taken off", |_, table| {
+        let mut steps = step_list(table);
+        steps.iter_mut().for_each(|step| step[2] = 0);
+        replace_steps(table, steps);
+    }),
+    ("one key for all", |random, table| {
+        if has_keys(table) {
+            let (mut steps, key) = (step_list(table), random.pick(&[1, 2, 255]));
+            steps.iter_mut().for_each(|step| step[2] = key);
+            replace_steps(table, steps);
+        }
+    }),
+];
+
 /// Makes the change, and in some cases makes it again.
 fn once_or_twice(random: &mut Random, table: &mut [u8], change: fn(&mut Random, &mut [u8])) {
     change(random, table);
@@ -203,6 +287,10 @@ fn once_or_twice(random: &mut Random, table: &mut [u8], change: fn(&mut Random, 
 
 fn layout(table: &[u8]) -> TableLayout {
     TableLayout::of_file(table).expect("the version is known")
+}
+
+pub fn has_keys(table: &[u8]) -> bool {
+    Kind::of_file(table) == Some(Kind::Tpk)
 }
 
 fn states(table: &[u8]) -> usize {
@@ -223,14 +311,55 @@ fn first_step(table: &[u8]) -> usize {
     layout(table).step(states(table), 0)
 }
 
-fn sort_steps(table: &mut Vec<u8>) {
-    let first_step = first_step(table);
-    let mut steps: Vec<[u8; 2]> = table[first_step..]
-        .chunks_exact(2)
-        .map(|step| [step[0], step[1]])
-        .collect();
-    steps.sort();
-    table.splice(first_step.., steps.concat());
+/// From, to and key of each step; the key is 0 where there are none.
+fn step_list(table: &[u8]) -> Vec<[u8; 3]> {
+    let steps = table[first_step(table)..].chunks_exact(layout(table).step_width);
+    steps
+        .map(|step| [step[0], step[1], step.get(2).copied().unwrap_or(0)])
+        .collect()
+}
+
+/// Puts these steps, of which each gets so many bytes, in place of those that stand there.
+fn put_steps(table: &mut Vec<u8>, steps: &[[u8; 3]], width: usize) {
+    table.truncate(first_step(table));
+    table.extend(steps.iter().flat_map(|step| &step[..width]));
+}
+
+/// Puts these steps in place of those that stand there, each once where they must rise.
+fn replace_steps(table: &mut Vec<u8>, mut steps: Vec<[u8; 3]>) {
+    if layout(table).rising {
+        steps.sort();
+        steps.dedup();
+    }
+    set_steps(table, steps.len());
+    put_steps(table, &steps, layout(table).step_width);
+}
+
+fn sort_if_rising(table: &mut Vec<u8>) {
+    replace_steps(table, step_list(table));
+}
+
+/// Sorts the steps of a table with keys by these numbers.
+fn sort_keyed(table: &mut Vec<u8>, numbers: impl Fn([u8; 3]) -> [u8; 3]) {
+    if has_keys(table) {
+        let mut steps = step_list(table);
+        steps.sort_by_key(|&step| numbers(step));
+        put_steps(table, &steps, 3);
+    }
+}
+
+/// Gives some step of a table with keys another key.
+fn change_key(
+    random: &mut Random,
+    table: &mut Vec<u8>,
+    change: impl FnOnce(&mut Random, u8) -> u8,
+) {
+    let mut steps = step_list(table);
+    if has_keys(table) && !steps.is_empty() {
+        let j = random.below(steps.len());
+        steps[j][2] = change(random, steps[j][2]);
+        replace_steps(table, steps);
+    }
 }
 
 /// Changes the start word, where the table has one.
@@ -289,11 +418,18 @@ fn put_version(table: &mut [u8], version: u16) {
     table[3..5].copy_from_slice(&version.to_be_bytes());
 }
 
-/// Puts a table into another version and leaves its steps as they are. Of several starts
-/// the first is kept where there is no room for more, and of a mark the low half.
+/// Writes another kind and another version and nothing else.
+fn put_form(table: &mut [u8], form: Form) {
+    table[..3].copy_from_slice(form.kind.bytes());
+    put_version(table, form.version);
+}
+
+/// Puts a table without keys into another version and leaves its steps as they are. Of
+/// several starts the first is kept where there is no room for more, and of a mark the low
+/// half.
 fn set_version(table: &mut Vec<u8>, version: u16) {
     let before = layout(table);
-    let after = TableLayout::of(version).expect("the version is known");
+    let after = TableLayout::of(Form::tpt(version)).expect("the version is known");
     let (starts, marks) = (start_word(table), marks(table));
     replace_marks(table, &marks, after.mark_width);
     put_version(table, version);
@@ -309,18 +445,18 @@ fn set_version(table: &mut Vec<u8>, version: u16) {
 }
 
 fn step_end_too_high(random: &mut Random, table: &mut [u8]) {
-    let first_step = first_step(table);
-    if table.len() > first_step {
+    let m = steps(table);
+    if m > 0 {
         let n = table[5];
-        let place = random.within(first_step, table.len() - 1);
-        table[place] = random.pick(&[n, n, n + 1, 64, 255]);
+        let step = layout(table).step(states(table), random.below(m));
+        table[step + random.below(2)] = random.pick(&[n, n, n + 1, 64, 255]);
     }
 }
 
 /// Where a step begins that has one before it.
 fn any_later_step(random: &mut Random, table: &[u8]) -> Option<usize> {
     let m = steps(table);
-    (m >= 2).then(|| first_step(table) + 2 * random.within(1, m - 1))
+    (m >= 2).then(|| layout(table).step(states(table), random.within(1, m - 1)))
 }
 
 fn repeat_step(random: &mut Random, table: &mut [u8]) {
@@ -328,9 +464,10 @@ fn repeat_step(random: &mut Random, table: &mut [u8]) {
     if m >= 2 {
         let later = random.within(1, m - 1);
         let earlier = random.below(later);
-        let first_step = first_step(table);
-        let from = first_step + 2 * earlier;
-        table.copy_within(from..from + 2, first_step + 2 * later);
+        let n = states(table);
+        let place = |j| layout(table).step(n, j);
+        let (from, to) = (place(earlier)..place(earlier + 1), place(later));
+        table.copy_within(from, to);
     }
 }
 
@@ -338,6 +475,7 @@ fn repeat_step(random: &mut Random, table: &mut [u8]) {
 mod tests {
     use super::*;
     use crate::families::any_system;
+    use crate::system::Forms;
     use std::collections::BTreeSet;
 
     /// The number with which the left table is refused, or 0.
@@ -355,7 +493,8 @@ mod tests {
         let mut random = Random::new(1);
         let mut seen = BTreeSet::new();
         for _ in 0..1_000 {
-            let table = any_system(&mut random, VERSIONS).left_bytes();
+            let table = any_system(&mut random, Forms::All).left_bytes();
+            let form = Form::of_file(&table).expect("the table is well formed");
             for (label, edit) in TABLE_EDITS {
                 let mut edited = table.clone();
                 edit(&mut random, &mut edited);
@@ -366,19 +505,20 @@ mod tests {
                 let expected =
                     code == 0 || !label.contains(':') || said.any(|said: u64| said == code);
                 assert!(expected, "{code} for {label}");
-                seen.insert((table[4], code));
+                seen.insert((form, code));
             }
         }
-        for (version, codes) in [
-            (1, [1, 2, 3, 4, 5, 6, 7, 8, 9]),
-            (2, [1, 2, 3, 4, 5, 6, 7, 8, 24]),
-            (3, [1, 2, 3, 4, 28, 6, 7, 8, 24]),
-            (4, [1, 2, 3, 4, 28, 6, 7, 8, 24]),
+        for (form, codes) in [
+            (Form::tpt(1), [1, 2, 3, 4, 5, 6, 7, 8, 9]),
+            (Form::tpt(2), [1, 2, 3, 4, 5, 6, 7, 8, 24]),
+            (Form::tpt(3), [1, 2, 3, 4, 28, 6, 7, 8, 24]),
+            (Form::tpt(4), [1, 2, 3, 4, 28, 6, 7, 8, 24]),
+            (Form::TPK, [1, 2, 3, 4, 28, 6, 7, 8, 24]),
         ] {
             let missing = codes
                 .into_iter()
-                .find(|&code| !seen.contains(&(version, code)));
-            assert_eq!(missing, None, "version {version}");
+                .find(|&code| !seen.contains(&(form, code)));
+            assert_eq!(missing, None, "{form:?}");
         }
     }
 
@@ -387,9 +527,9 @@ mod tests {
     fn resized_tables_are_well_formed() {
         let mut random = Random::new(2);
         for _ in 0..1_000 {
-            let mut table = any_system(&mut random, VERSIONS).left_bytes();
+            let mut table = any_system(&mut random, Forms::All).left_bytes();
             for _ in 0..2 {
-                let edits = random.pick(&[TABLE_RESIZES, MARK_EDITS]);
+                let edits = random.pick(&[TABLE_RESIZES, MARK_EDITS, KEY_EDITS]);
                 let (label, edit) = random.pick(edits);
                 edit(&mut random, &mut table);
                 assert_eq!(refusal(&table), 0, "{label}");

@@ -2,8 +2,8 @@
 
 use crate::certificate::{read_certificate, Ranks};
 use crate::judge::{judge, outcome, Clause, Outcome};
-use crate::side::{both_sides, Duty, Side};
-use crate::table::read_table;
+use crate::side::{both_sides, Side};
+use crate::table::{read_table_of, Kind, Table};
 use crate::Answer;
 
 /// It "takes tables, a certificate, the path's side, a start on the other side, and a
@@ -69,12 +69,13 @@ fn matching_for(
     path: &[u8],
     [states_length, blocks_length]: [usize; 2],
 ) -> Result<Matching, Answer> {
-    let judged = judge(left, right, certificate);
+    let (left_bytes, right_bytes) = (left, right);
+    let left = read_tpt(left_bytes, 0)?;
+    let right = read_tpt(right_bytes, 1)?;
+    let judged = judge(left_bytes, right_bytes, certificate);
     if judged[0] != 0 {
         return Err(judged);
     }
-    let left = read_table(left, 0)?;
-    let right = read_table(right, 1)?;
     let certificate = read_certificate(certificate, &left, &right)?;
     let sides = both_sides(&left, &right, &certificate.related);
 
@@ -94,6 +95,11 @@ fn matching_for(
         return Err([27, 3, 0, 0, 0, 0]);
     }
     Ok(matching)
+}
+
+/// "The follower of runs takes TPT only and answers 2 for TPK."
+fn read_tpt(bytes: &[u8], file: u64) -> Result<Table, Answer> {
+    read_table_of(&[Kind::Tpt], bytes, file)
 }
 
 /// 25 when "the path is empty, over 256 states, holds a state out of range or two
@@ -141,14 +147,7 @@ fn matching(number: usize, side: &Side, ranks: &Ranks, start: usize, path: &[usi
         let (s, u) = (pair[0], pair[1]);
         let j = step_number(side, s, u).expect("neighbours are a step");
         loop {
-            let duty = Duty {
-                side: number,
-                s,
-                t,
-                j,
-                u,
-            };
-            match outcome(side, ranks, duty) {
+            match outcome(side, ranks, side.duty(number, t, j)) {
                 Outcome::Met(Clause::TwoA, v) => {
                     (t, block) = (v, block + 1);
                     states.push((t, block));

@@ -2,7 +2,8 @@
 //! bisimulation?
 
 use crate::certificate::{read_certificate, Ranks};
-use crate::side::{both_sides, judging_order, test_marks, test_starts, Duty, Look, Side};
+use crate::side::{both_sides, judging_order, Duty, Look, Side};
+use crate::side::{test_kinds, test_marks, test_starts};
 use crate::table::read_table;
 use crate::Answer;
 
@@ -40,6 +41,7 @@ pub fn accept(
 ) -> Result<Answer, Answer> {
     let left = read_table(left, 0)?;
     let right = read_table(right, 1)?;
+    test_kinds(&left, &right)?;
     let certificate = read_certificate(certificate, &left, &right)?;
 
     let sides = both_sides(&left, &right, &certificate.related);
@@ -81,36 +83,41 @@ pub fn outcome(side: &Side, ranks: &Ranks, duty: Duty) -> Outcome {
     }
 }
 
-/// "2a: some step t to v with u, v related." Gives the smallest such v.
+/// "2a: some step t to v with u, v related." "In 2a the answering step has the same key".
+/// Gives the smallest such v.
 fn clause_2a(side: &Side, duty: Duty) -> Option<usize> {
     side.other
-        .ends_from(duty.t)
+        .ends_under(duty.key, duty.t)
         .filter(|&v| side.related[duty.u][v])
         .min()
 }
 
-/// "2b: u, t related, and the A rank of (u, t) below that of (s, t)."
+/// "2b: u, t related, and the A rank of (u, t) below that of (s, t)." "2b needs key 0 on the
+/// duty's step".
 fn clause_2b(side: &Side, ranks: &Ranks, duty: Duty) -> bool {
-    side.related[duty.u][duty.t] && ranks.stutter[duty.u][duty.t] < ranks.stutter[duty.s][duty.t]
+    duty.is_silent()
+        && side.related[duty.u][duty.t]
+        && ranks.stutter[duty.u][duty.t] < ranks.stutter[duty.s][duty.t]
 }
 
 /// "2c: some step t to v with s, v related, and the C rank of this step at v
-/// below that at t." This step is the step s to u, whose number is j. Gives the
-/// smallest such v.
+/// below that at t." This step is the step s to u, whose number is j. "2c takes a silent
+/// step", which is that from t to v. Gives the smallest such v.
 fn clause_2c(side: &Side, ranks: &Ranks, duty: Duty) -> Option<usize> {
     side.other
-        .ends_from(duty.t)
+        .silent_ends_from(duty.t)
         .filter(|&v| side.related[duty.s][v])
         .filter(|&v| ranks.chase[duty.j][v] < ranks.chase[duty.j][duty.t])
         .min()
 }
 
-/// "duty unmet; u, t unrelated, no step from t to a state related to s"
+/// "duty unmet; u, t unrelated, no step from t to a state related to s". "Where 18 and 22
+/// have u, t unrelated, a key other than 0 counts as well; 18 looks at silent steps from t
+/// only".
 fn fails_whatever_the_ranks(side: &Side, duty: Duty) -> bool {
-    let u_t_unrelated = !side.related[duty.u][duty.t];
     let some_step_stays_with_s = side
         .other
-        .ends_from(duty.t)
+        .silent_ends_from(duty.t)
         .any(|v| side.related[duty.s][v]);
-    u_t_unrelated && !some_step_stays_with_s
+    side.cannot_pause(duty) && !some_step_stays_with_s
 }

@@ -30,7 +30,7 @@ pub use listing::{list, listing_program, Line};
 pub use maker::{make, make_by_relaxing};
 pub use path::path_property;
 pub use program::{pieces, program};
-pub use table::{read_table, Step, Table, TableLayout};
+pub use table::{read_table, Form, Kind, Step, Table, TableLayout};
 pub use write::write;
 
 /// "Six numbers: code, file, a, b, c, d."

@@ -1,8 +1,9 @@
 //! The maker: it works out the ranks for a given relation, where they exist.
 
 use crate::certificate::{read_rows, Layout};
-use crate::side::{both_sides, judging_order, test_marks, test_starts, Look, Side};
-use crate::table::read_table;
+use crate::side::{both_sides, judging_order, Look, Side};
+use crate::side::{test_kinds, test_marks, test_starts};
+use crate::table::{read_table, Step};
 use crate::Answer;
 
 /// The chase length of each own step at each other state: `[j][t]`.
@@ -72,6 +73,7 @@ pub fn find_ranks(
 ) -> Result<Found, Answer> {
     let left = read_table(left, 0)?;
     let right = read_table(right, 1)?;
+    test_kinds(&left, &right)?;
     let layout = Layout::new(&left, &right);
 
     // "relation not 8 n1 bytes"
@@ -89,9 +91,10 @@ pub fn find_ranks(
         match look {
             Look::Marks { s, t } => test_marks(&left, &right, s, t)?,
             Look::Duty(duty) => {
-                // "maker: unmatched duty, u, t unrelated"
+                // "maker: unmatched duty, u, t unrelated", and "a key other than 0 counts
+                // as well"
                 let unmatched = chase[duty.side][duty.j][duty.t].is_none();
-                if unmatched && !sides[duty.side].related[duty.u][duty.t] {
+                if unmatched && sides[duty.side].cannot_pause(duty) {
                     return Err(duty.refusal(22));
                 }
             }
@@ -119,9 +122,9 @@ pub fn chase_lengths(side: &Side) -> Vec<Vec<Option<usize>>> {
         .map(|j| {
             (0..side.other.states())
                 .map(|t| {
-                    let s = side.own.steps[j].from;
-                    if side.related[s][t] {
-                        chase_length(side, s, side.own.steps[j].to, t)
+                    let step = side.own.steps[j];
+                    if side.related[step.from][t] {
+                        chase_length(side, step, t)
                     } else {
                         None
                     }
@@ -134,23 +137,25 @@ pub fn chase_lengths(side: &Side) -> Vec<Vec<Option<usize>>> {
 /// "A duty is matched when a list of one or more states, t first, each stepping
 /// to the next and all related to s, has a step from its last state to some v
 /// related to u. The chase length is the least number of steps inside such a
-/// list." `None` means that no list of any length does.
+/// list." "A matched list uses silent steps inside, and its last step has the duty's key."
+/// `None` means that no list of any length does.
 ///
 /// `ends` are the last states of the lists with at most `length` steps inside. A
 /// shortest list has no state twice, so it has fewer steps than there are states.
-fn chase_length(side: &Side, s: usize, u: usize, t: usize) -> Option<usize> {
+fn chase_length(side: &Side, duty: Step, t: usize) -> Option<usize> {
+    let (s, u) = (duty.from, duty.to);
     let steps = &side.other.steps;
     let mut ends = vec![false; side.other.states()];
     ends[t] = true;
     for length in 0..side.other.states() {
         if steps
             .iter()
-            .any(|step| ends[step.from] && side.related[u][step.to])
+            .any(|step| step.key == duty.key && ends[step.from] && side.related[u][step.to])
         {
             return Some(length);
         }
         let mut longer = ends.clone();
-        for step in steps {
+        for step in steps.iter().filter(|step| step.is_silent()) {
             if ends[step.from] && side.related[s][step.to] {
                 longer[step.to] = true;
             }
@@ -165,16 +170,15 @@ fn chase_length(side: &Side, s: usize, u: usize, t: usize) -> Option<usize> {
 
 pub fn relaxed_lengths(side: &Side) -> Vec<Vec<Option<usize>>> {
     let steps = side.own.steps.iter();
-    steps
-        .map(|step| relaxed(side, step.from, step.to))
-        .collect()
+    steps.map(|&step| relaxed(side, step)).collect()
 }
 
-/// The chase lengths of a step from s to u: 0 where 2a holds, and then a step of the
-/// other side shortens the length at the state it leaves, until none does.
-fn relaxed(side: &Side, s: usize, u: usize) -> Vec<Option<usize>> {
+/// The chase lengths of the duties of a step from s to u: 0 where 2a holds, and then a silent
+/// step of the other side shortens the length at the state it leaves, until none does.
+fn relaxed(side: &Side, duty: Step) -> Vec<Option<usize>> {
+    let (s, u) = (duty.from, duty.to);
     let mut lengths = vec![None; side.other.states()];
-    for step in &side.other.steps {
+    for step in side.other.steps.iter().filter(|step| step.key == duty.key) {
         if side.related[s][step.from] && side.related[u][step.to] {
             lengths[step.from] = Some(0);
         }
@@ -182,7 +186,7 @@ fn relaxed(side: &Side, s: usize, u: usize) -> Vec<Option<usize>> {
     let mut changed = true;
     while changed {
         changed = false;
-        for step in &side.other.steps {
+        for step in side.other.steps.iter().filter(|step| step.is_silent()) {
             let Some(after) = lengths[step.to] else {
                 continue;
             };
@@ -197,29 +201,36 @@ fn relaxed(side: &Side, s: usize, u: usize) -> Vec<Option<usize>> {
 }
 
 /// For each other state t and each own state s related to it, "the most steps in
-/// a chain from s of steps unmatched at t through states related to t", counted
-/// up to the number of own states. The result is `[t][s]`.
+/// a chain from s of steps unmatched at t through states related to t", counted up to the
+/// number of own states. The result is `[t][s]`.
 fn longest_chains(side: &Side, chase: &[Vec<Option<usize>>]) -> Vec<Vec<usize>> {
+    let states = side.own.states();
     (0..side.other.states())
-        .map(|t| chains_of_at_most(side, chase, t, side.own.states()))
+        .map(|t| chains_of_at_most(&chain_steps(side, chase, t), states, states))
+        .collect()
+}
+
+/// The "steps unmatched at t" between "states related to t"; "chains are of silent steps".
+fn chain_steps(side: &Side, chase: &[Vec<Option<usize>>], t: usize) -> Vec<Step> {
+    let steps = side.own.steps.iter().enumerate();
+    let inside = |step: &Step| side.related[step.from][t] && side.related[step.to][t];
+    steps
+        .filter(|(j, step)| chase[*j][t].is_none() && inside(step) && step.is_silent())
+        .map(|(_, &step)| step)
         .collect()
 }
 
 /// "For chains of at most k steps it is 0 where k is 0 or no such step leaves s,
 /// else one more than the greatest over the next states for k - 1 [...] for all
 /// states of a side together."
-fn chains_of_at_most(side: &Side, chase: &[Vec<Option<usize>>], t: usize, k: usize) -> Vec<usize> {
-    let mut lengths = vec![0; side.own.states()];
+fn chains_of_at_most(steps: &[Step], states: usize, k: usize) -> Vec<usize> {
+    let mut lengths = vec![0; states];
     if k == 0 {
         return lengths;
     }
-    let shorter = chains_of_at_most(side, chase, t, k - 1);
-    for (j, step) in side.own.steps.iter().enumerate() {
-        let inside = side.related[step.from][t] && side.related[step.to][t];
-        let unmatched = chase[j][t].is_none();
-        if inside && unmatched {
-            lengths[step.from] = lengths[step.from].max(1 + shorter[step.to]);
-        }
+    let shorter = chains_of_at_most(steps, states, k - 1);
+    for step in steps {
+        lengths[step.from] = lengths[step.from].max(1 + shorter[step.to]);
     }
     lengths
 }

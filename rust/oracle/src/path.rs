@@ -2,21 +2,28 @@
 //! ranks nor matched duties nor chains, so it can check the maker from outside.
 
 use crate::certificate::read_rows;
-use crate::side::{both_sides, first_unpaired, Side};
-use crate::table::read_table;
+use crate::side::{both_sides, first_unpaired, test_kinds, Side};
+use crate::table::{read_table, Step};
 use std::collections::BTreeSet;
 
 /// Has the relation the path property? "The starts are related, related states
 /// have equal marks, and, for every related pair and every finite path from
 /// either state, the other state has a path, and the two can be cut into blocks,
 /// such that four things hold together." Of the starts "the starts rule is also what the
-/// path property asks".
+/// path property asks". For tables with keys "the path property adds: a path names its steps
+/// too, steps inside blocks are silent, and the steps that enter same-numbered blocks have
+/// equal keys"; in the others every key is 0, and this asks nothing.
 ///
-/// The tables and the relation must be well formed. The time grows steeply with
+/// The tables, of one kind, and the relation must be well formed. The time grows steeply with
 /// the number of states; up to four a side it is short.
 pub fn path_property(left: &[u8], right: &[u8], relation: &[u8]) -> bool {
     let left = read_table(left, 0).expect("the left table is well formed");
     let right = read_table(right, 1).expect("the right table is well formed");
+    assert_eq!(
+        test_kinds(&left, &right),
+        Ok(()),
+        "the tables are of one kind"
+    );
     let (n1, n2) = (left.states(), right.states());
     assert_eq!(relation.len(), 8 * n1, "the relation is well formed");
     let related = read_rows(relation, n1, n2).expect("the relation is well formed");
@@ -49,7 +56,7 @@ struct Block {
 ///
 /// For a path read so far, the search holds the set of ALL partial matchings that
 /// take in the whole path, each reduced to its newest block. It reads on, one own
-/// state at a time. The other path's block is chosen whole when the block begins;
+/// step at a time. The other path's block is chosen whole when the block begins;
 /// this loses nothing, because the cut of a finished matching fixes that block,
 /// and the test of each own state against it can wait until that state is read.
 ///
@@ -81,8 +88,8 @@ fn every_path_is_matched(side: &Side) -> bool {
             continue;
         }
         for j in side.own.steps_from(state) {
-            let next = side.own.steps[j].to;
-            waiting.push((next, read_on(side, &blocks, &matchings, next)));
+            let step = side.own.steps[j];
+            waiting.push((step.to, read_on(side, &blocks, &matchings, step)));
         }
     }
     true
@@ -97,26 +104,27 @@ fn path_may_end(side: &Side, state: usize, matchings: &BTreeSet<Block>) -> bool 
         .any(|block| !at_dead_end || side.other.is_dead_end(block.last))
 }
 
-/// All matchings after the own path has gone on to `next`: either `next` joins
-/// the newest block, or both paths begin a new one.
+/// All matchings after the own path has gone on by this step: either its end joins the
+/// newest block, where "steps inside blocks are silent", or both paths begin a new one, and
+/// "the steps that enter same-numbered blocks have equal keys".
 fn read_on(
     side: &Side,
     blocks: &[BTreeSet<(Set, usize)>],
     matchings: &BTreeSet<Block>,
-    next: usize,
+    step: Step,
 ) -> BTreeSet<Block> {
     let mut longer = BTreeSet::new();
     for block in matchings {
         // "No block has more states than the table its path is in."
         let room = block.own_length < side.own.states();
-        if room && related_to_all(side, next, block.others) {
+        if room && step.is_silent() && related_to_all(side, step.to, block.others) {
             longer.insert(Block {
                 own_length: block.own_length + 1,
                 ..*block
             });
         }
-        for j in side.other.steps_from(block.last) {
-            longer.extend(begin_block(side, blocks, next, side.other.steps[j].to));
+        for entered in side.other.ends_under(step.key, block.last) {
+            longer.extend(begin_block(side, blocks, step.to, entered));
         }
     }
     longer
@@ -141,14 +149,13 @@ fn begin_block<'a>(
         })
 }
 
-/// Every block of the other table that begins with `first`: a path of at most as
-/// many states as the table has, given as the set of its states and its last one.
+/// Every block of the other table that begins with `first`: a path by silent steps of at
+/// most as many states as the table has, given as the set of its states and its last one.
 fn other_blocks(side: &Side, first: usize) -> BTreeSet<(Set, usize)> {
     let mut found = BTreeSet::from([(1 << first, first)]);
     for _ in 1..side.other.states() {
         for (set, last) in found.clone() {
-            for j in side.other.steps_from(last) {
-                let next = side.other.steps[j].to;
+            for next in side.other.silent_ends_from(last) {
                 found.insert((set | 1 << next, next));
             }
         }

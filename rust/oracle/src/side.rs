@@ -1,6 +1,6 @@
 //! The two sides of a pair of tables, and the order in which they are judged.
 
-use crate::table::Table;
+use crate::table::{Step, Table};
 use crate::Answer;
 
 /// "A duty is a related pair (s, t) with a step s to u of the left; or a step of
@@ -11,6 +11,27 @@ pub struct Side<'a> {
     pub other: &'a Table,
     /// `related[own state][other state]`
     pub related: Vec<Vec<bool>>,
+}
+
+impl Side<'_> {
+    /// The duty of the own step j at the other state t, where this side has this number.
+    pub fn duty(&self, side: usize, t: usize, j: usize) -> Duty {
+        let Step { from, to, key } = self.own.steps[j];
+        let (s, u) = (from, to);
+        Duty {
+            side,
+            s,
+            t,
+            j,
+            u,
+            key,
+        }
+    }
+
+    /// 18 and 22 ask for "u, t unrelated", and "a key other than 0 counts as well".
+    pub fn cannot_pause(&self, duty: Duty) -> bool {
+        !self.related[duty.u][duty.t] || !duty.is_silent()
+    }
 }
 
 /// Both sides, the left one first.
@@ -32,7 +53,16 @@ pub fn both_sides<'a>(left: &'a Table, right: &'a Table, related: &[Vec<bool>]) 
     ]
 }
 
-/// A duty: own state s, other state t, and own step j from s to u.
+/// "30 when one table is TPT and the other TPK, tested after both are read, with file 1".
+pub fn test_kinds(left: &Table, right: &Table) -> Result<(), Answer> {
+    if left.form.kind == right.form.kind {
+        Ok(())
+    } else {
+        Err([30, 1, 0, 0, 0, 0])
+    }
+}
+
+/// A duty: own state s, other state t, and own step j from s to u under this key.
 #[derive(Clone, Copy)]
 pub struct Duty {
     pub side: usize,
@@ -40,9 +70,15 @@ pub struct Duty {
     pub t: usize,
     pub j: usize,
     pub u: usize,
+    pub key: u8,
 }
 
 impl Duty {
+    /// "key 0 is silent"
+    pub fn is_silent(&self) -> bool {
+        self.key == 0
+    }
+
     /// "side, left state, right state, step": these four name a duty.
     pub fn name(&self) -> [u64; 4] {
         let (left, right) = if self.side == 0 {
@@ -78,14 +114,10 @@ pub fn judging_order(sides: &[Side; 2]) -> Vec<Look> {
             }
             looks.push(Look::Marks { s, t });
             for j in left.steps_from(s) {
-                let u = left.steps[j].to;
-                let side = 0;
-                looks.push(Look::Duty(Duty { side, s, t, j, u }));
+                looks.push(Look::Duty(sides[0].duty(0, t, j)));
             }
             for j in right.steps_from(t) {
-                let u = right.steps[j].to;
-                let (side, s, t) = (1, t, s);
-                looks.push(Look::Duty(Duty { side, s, t, j, u }));
+                looks.push(Look::Duty(sides[1].duty(1, s, j)));
             }
         }
     }

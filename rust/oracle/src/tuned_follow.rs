@@ -4,7 +4,7 @@
 //! After a 2c the next clause is 2a or 2c again: where the state reached is related to
 //! the step's end, 2a held before. So 2b is looked at once for each step.
 
-use crate::tuned::{accept, bits, Side};
+use crate::tuned::{accept, bits, read_table_without_keys, Side};
 use crate::Answer;
 
 /// "takes tables, a certificate, the path's side, a start on the other side, and a path
@@ -19,7 +19,25 @@ pub fn follow(
     states: &mut [u8],
     blocks: &mut [u8],
 ) -> Answer {
-    let followed = accept(left, right, certificate, |sides, _| {
+    let outputs = (states, blocks);
+    match try_follow(left, right, certificate, side, start, path, outputs) {
+        Ok(answer) | Err(answer) => answer,
+    }
+}
+
+/// Tables with keys are refused where they are read.
+fn try_follow(
+    left: &[u8],
+    right: &[u8],
+    certificate: &[u8],
+    side: u64,
+    start: u64,
+    path: &[u8],
+    (states, blocks): (&mut [u8], &mut [u8]),
+) -> Result<Answer, Answer> {
+    let left = read_table_without_keys(left, 0)?;
+    let right = read_table_without_keys(right, 1)?;
+    accept(&left, &right, certificate, |sides, _| {
         let Some(side) = sides.get(side.min(2) as usize) else {
             return Err([25, 4, 0, 0, 0, 0]);
         };
@@ -32,10 +50,7 @@ pub fn follow(
         states[..matching_bytes.len()].copy_from_slice(matching_bytes);
         blocks[..number_bytes.len()].copy_from_slice(number_bytes);
         Ok([0, 0, matching.len() as u64, 0, 0, 0])
-    });
-    match followed {
-        Ok(answer) | Err(answer) => answer,
-    }
+    })
 }
 
 /// The start as a state, or 25 or 26.

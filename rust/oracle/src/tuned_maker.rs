@@ -1,11 +1,11 @@
 //! The maker once more, tuned, and so the enquiry and the commit: the method of the proved
 //! maker on 64-bit words.
 //!
-//! For each own step one row of lengths is relaxed over the other side's steps
+//! For each own step one row of lengths is relaxed over the other side's silent steps
 //! until a round changes nothing. Chains are lengthened by rounds, for all states
 //! of a side together. Nothing here shares code with the plain maker.
 
-use crate::tuned::{bits, read_rows, read_table, test_starts, turn, Table};
+use crate::tuned::{bits, key, read_rows, read_tables, test_starts, turn, Table};
 use crate::{Answer, Slip};
 
 /// "Input: two tables, n1 rows of 8 bytes, an output."
@@ -80,10 +80,9 @@ fn examine(
     test: impl FnOnce(usize) -> Result<(), Answer>,
     then: impl FnOnce(&[Side; 2], &[Vec<u8>; 2]),
 ) -> Result<usize, Answer> {
-    let left = read_table(left, 0)?;
-    let right = read_table(right, 1)?;
+    let (left, right) = read_tables(left, right)?;
     let (n1, n2) = (left.states, right.states);
-    let (m1, m2) = (left.steps.len() / 2, right.steps.len() / 2);
+    let (m1, m2) = (left.step_count(), right.step_count());
     if relation.len() != 8 * n1 {
         return Err([20, 2, 0, 0, 0, 0]);
     }
@@ -97,17 +96,10 @@ fn examine(
         Side::new(&left, &right, &rows),
         Side::new(&right, &left, &columns),
     ];
-    for s in 0..n1 {
-        for t in bits(rows[s]) {
-            if left.marks[s] != right.marks[t] {
-                return Err([17, 2, s as u64, t as u64, 0, 0]);
-            }
-            for (number, own, other) in [(0, s, t), (1, t, s)] {
-                if let Some(j) = sides[number].first_lost(own, other) {
-                    return Err([22, 2, number as u64, s as u64, t as u64, j as u64]);
-                }
-            }
-        }
+    if left.step_width == 3 {
+        test_pairs::<3>(&sides)?;
+    } else {
+        test_pairs::<2>(&sides)?;
     }
     let chains = [sides[0].chains(), sides[1].chains()];
     for number in 0..2 {
@@ -119,10 +111,28 @@ fn examine(
     Ok(length)
 }
 
+/// 17 and 22, where steps have so many bytes.
+fn test_pairs<const WIDTH: usize>(sides: &[Side; 2]) -> Result<(), Answer> {
+    let (left, right) = (sides[0].own, sides[1].own);
+    for s in 0..left.states {
+        for t in bits(sides[0].related[s]) {
+            if left.marks[s] != right.marks[t] {
+                return Err([17, 2, s as u64, t as u64, 0, 0]);
+            }
+            for (number, own, other) in [(0, s, t), (1, t, s)] {
+                if let Some(j) = sides[number].first_lost::<WIDTH>(own, other) {
+                    return Err([22, 2, number as u64, s as u64, t as u64, j as u64]);
+                }
+            }
+        }
+    }
+    Ok(())
+}
+
 /// Writes the certificate at the front of an output that has room for it.
 fn fill(sides: &[Side; 2], chains: &[Vec<u8>; 2], relation: &[u8], output: &mut [u8]) {
     let [n1, n2] = [0, 1].map(|number| sides[number].own.states);
-    let [m1, m2] = [0, 1].map(|number| sides[number].own.steps.len() / 2);
+    let [m1, m2] = [0, 1].map(|number| sides[number].own.step_count());
     let (header, rest) = output.split_at_mut(11);
     let (given, rest) = rest.split_at_mut(8 * n1);
     let (al, rest) = rest.split_at_mut(n1 * n2);
@@ -141,11 +151,16 @@ fn fill(sides: &[Side; 2], chains: &[Vec<u8>; 2], relation: &[u8], output: &mut 
 
 impl<'a> Side<'a> {
     fn new(own: &'a Table, other: &'a Table, related: &'a [u64; 64]) -> Side<'a> {
-        let mut distances = vec![0; 64 * (own.steps.len() / 2)];
+        let mut distances = vec![0; 64 * own.step_count()];
         let rows = distances.chunks_exact_mut(64);
-        for (step, row) in own.steps.chunks_exact(2).zip(rows) {
+        let steps = own.steps.chunks_exact(own.step_width);
+        for ((j, step), row) in steps.enumerate().zip(rows) {
             let (from, to) = (related[step[0] as usize], related[step[1] as usize]);
-            row.copy_from_slice(&step_distances(other, from, to));
+            let slot = own
+                .keyed
+                .as_ref()
+                .map_or(0, |keyed| keyed.slots[j] as usize);
+            row.copy_from_slice(&step_distances(other, slot, from, to));
         }
         Side {
             own,
@@ -164,12 +179,14 @@ impl<'a> Side<'a> {
     }
 
     /// The first step from s that is unmatched at t and leads to a state unrelated
-    /// to t.
-    fn first_lost(&self, s: usize, t: usize) -> Option<usize> {
+    /// to t or has a key.
+    #[inline]
+    fn first_lost<const WIDTH: usize>(&self, s: usize, t: usize) -> Option<usize> {
         let steps = &self.own.order[self.own.first[s]..self.own.first[s + 1]];
         steps.iter().map(|&j| j as usize).find(|&j| {
-            let u = self.own.steps[2 * j + 1] as usize;
-            !self.is_matched(j, t) && !self.is_related(u, t)
+            let u = self.own.steps[WIDTH * j + 1] as usize;
+            let pausing = key::<WIDTH>(self.own.steps, j) == 0 && self.is_related(u, t);
+            !self.is_matched(j, t) && !pausing
         })
     }
 
@@ -178,7 +195,10 @@ impl<'a> Side<'a> {
     fn chains(&self) -> Vec<u8> {
         let mut chains = vec![0; 64 * self.other.states];
         for (t, row) in chains.chunks_exact_mut(64).enumerate() {
-            let open = self.open_steps(t);
+            let open = match self.own.step_width {
+                3 => self.open_steps::<3>(t),
+                _ => self.open_steps::<2>(t),
+            };
             let mut lengths = [0; 64];
             for _ in 0..self.own.states {
                 lengths = lengthen(&open, &lengths);
@@ -188,13 +208,14 @@ impl<'a> Side<'a> {
         chains
     }
 
-    /// The steps between states related to t that are unmatched at t.
-    fn open_steps(&self, t: usize) -> Vec<[u8; 2]> {
-        let steps = self.own.steps.chunks_exact(2).enumerate();
+    /// The silent steps between states related to t that are unmatched at t, where steps
+    /// have so many bytes.
+    fn open_steps<const WIDTH: usize>(&self, t: usize) -> Vec<[u8; 2]> {
+        let steps = self.own.steps.chunks_exact(WIDTH).enumerate();
         steps
             .filter(|(j, step)| {
-                let inside = step.iter().all(|&s| self.is_related(s as usize, t));
-                inside && !self.is_matched(*j, t)
+                let inside = step[..2].iter().all(|&s| self.is_related(s as usize, t));
+                inside && key::<WIDTH>(step, 0) == 0 && !self.is_matched(*j, t)
             })
             .map(|(_, step)| [step[0], step[1]])
             .collect()
@@ -230,19 +251,27 @@ impl<'a> Side<'a> {
     }
 }
 
-/// The row of lengths of one own step: `from` are the other states related to the
-/// state it leaves and `to` those related to its end.
-fn step_distances(other: &Table, from: u64, to: u64) -> [u8; 64] {
+/// The row of lengths of one own step whose key has this slot: `from` are the other states
+/// related to the state it leaves and `to` those related to its end.
+fn step_distances(other: &Table, slot: usize, from: u64, to: u64) -> [u8; 64] {
     let mut row = [other.states as u8; 64];
-    for step in other.steps.chunks_exact(2) {
-        if from >> step[0] & 1 == 1 && to >> step[1] & 1 == 1 {
-            row[step[0] as usize] = 0;
+    if let Some(keyed) = &other.keyed {
+        for x in bits(from) {
+            if keyed.row(x)[slot] & to != 0 {
+                row[x] = 0;
+            }
+        }
+    } else {
+        for step in other.steps.chunks_exact(2) {
+            if from >> step[0] & 1 == 1 && to >> step[1] & 1 == 1 {
+                row[step[0] as usize] = 0;
+            }
         }
     }
     let mut changed = true;
     while changed {
         changed = false;
-        for step in other.steps.chunks_exact(2) {
+        for step in other.silent.chunks_exact(2) {
             let (x, y) = (step[0] as usize, step[1] as usize);
             if row[y] + 1 < row[x] && from >> x & 1 == 1 {
                 row[x] = row[y] + 1;

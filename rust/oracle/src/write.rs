@@ -1,6 +1,6 @@
 //! The writer: a table of version 4 from marks, a start word and a list of steps.
 
-use crate::table::{Step, TableLayout};
+use crate::table::{Form, Step, TableLayout};
 use crate::Answer;
 
 /// "The writer takes marks as 32-bit numbers and steps as 16-bit numbers, from in the high
@@ -21,12 +21,13 @@ fn from_high_byte(step: u16) -> Step {
     Step {
         from: usize::from(step / 256),
         to: usize::from(step % 256),
+        key: 0,
     }
 }
 
 /// "its length is 16 + 4n + 2m"
 fn length(n: usize, m: usize) -> usize {
-    let layout = TableLayout::of(4).expect("version 4 is known");
+    let layout = TableLayout::of(Form::tpt(4)).expect("version 4 is known");
     layout.length(n, m)
 }
 

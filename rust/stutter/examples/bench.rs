@@ -1,9 +1,12 @@
 //! Times the proved judge, maker, enquiry, commit, follower and writer and the listing program
 //! beside Rust versions, on the same inputs in one run. The versions take turns in every
-//! round and the medians are compared, so that other load on the machine does not decide.
+//! round and the medians are compared, so that other load on the machine does not decide. On
+//! tables with keys the proved judge, maker, enquiry and commit also take turns with
+//! themselves on tables of the same shape without keys.
 
 use inputs::{all_related, long_chains, long_distances, long_waits, Random, System};
-use oracle::{Answer, Slip, Step, Table};
+use inputs::{all_related_with_keys, long_chains_with_keys, long_distances_with_keys, save_in};
+use oracle::{Answer, Form, Slip, Step, Table};
 use std::cell::RefCell;
 use std::env;
 use std::fs::{self, File};
@@ -87,12 +90,46 @@ const ROUNDS: usize = 301;
 /// How long each version works in a round, where one call does not take longer.
 const TURN: Duration = Duration::from_micros(500);
 
+/// What the time of the proved version on a shape without keys is called.
+const WITHOUT_KEYS: &str = "proved";
+
 /// One call of each version with the same input, the proved version first.
 struct Contest<'a> {
     name: &'static str,
     /// How much a call works through, and of what, for a time of each.
     work: (usize, &'static str),
     calls: Vec<(&'static str, Call<'a>)>,
+}
+
+/// Tables and a relation for which there is a certificate.
+struct Shape {
+    name: &'static str,
+    system: System,
+    /// The same shape without keys, where this one has keys.
+    without_keys: Option<System>,
+}
+
+impl Shape {
+    fn new(name: &'static str, system: System) -> Shape {
+        Shape {
+            name,
+            system,
+            without_keys: None,
+        }
+    }
+
+    /// A shape with keys, and the same without them in version 4, of which a table with keys
+    /// is the sibling: in both the steps rise.
+    fn with_keys(name: &'static str, system: System, mut without_keys: System) -> Shape {
+        save_in(&mut without_keys.left, Form::tpt(4));
+        save_in(&mut without_keys.right, Form::tpt(4));
+        assert_eq!(system.layout(), without_keys.layout(), "{name}");
+        Shape {
+            name,
+            system,
+            without_keys: Some(without_keys),
+        }
+    }
 }
 
 type Call<'a> = Box<dyn Fn() + 'a>;
@@ -103,36 +140,26 @@ fn main() {
     }
     println!("64 states and 256 steps a side where no size is given, medians of {ROUNDS} rounds");
     println!("the judge");
-    judge("accepted", &all_related(), [0, 0, 4096, 32_768, 0, 0]);
-    judge(
-        "accepted, 64 starts a side",
-        &all_starts(),
-        [0, 0, 4096, 32_768, 0, 0],
-    );
-    judge(
-        "last start fails",
-        &last_start_fails(),
-        [16, 2, 1, 63, 0, 0],
-    );
-    judge("first check fails", &first_fails(), [17, 2, 0, 0, 0, 0]);
-    judge("last check fails", &last_fails(), [18, 2, 1, 63, 63, 255]);
-    let shapes = [
-        ("all pairs related", all_related()),
-        ("chains of 63 steps", long_chains()),
-        ("distances of 63 steps", long_distances()),
-    ];
+    let accepted = [0, 0, 4096, 32_768, 0, 0];
+    judge(&Shape::new("accepted", all_related()), accepted);
+    let name = "accepted, four keys";
+    let keyed = Shape::with_keys(name, all_related_with_keys(), all_related());
+    judge(&keyed, accepted);
+    for (name, system, answer) in [
+        ("accepted, 64 starts a side", all_starts(), accepted),
+        ("last start fails", last_start_fails(), [16, 2, 1, 63, 0, 0]),
+        ("first check fails", first_fails(), [17, 2, 0, 0, 0, 0]),
+        ("last check fails", last_fails(), [18, 2, 1, 63, 63, 255]),
+    ] {
+        judge(&Shape::new(name, system), answer);
+    }
+    let shapes = shapes();
     println!("the maker");
-    for (name, system) in &shapes {
-        make(name, system);
-    }
+    shapes.iter().for_each(make);
     println!("the enquiry");
-    for (name, system) in &shapes {
-        enquire(name, system);
-    }
+    shapes.iter().for_each(enquire);
     println!("the commit");
-    for (name, system) in &shapes {
-        commit(name, system);
-    }
+    shapes.iter().for_each(commit);
     println!("the follower");
     let (ring, path) = (long_waits(), [0, 1].repeat(128));
     let name = "256 states of a table of 2 on a ring of 64";
@@ -148,98 +175,130 @@ fn main() {
     listing("distances of 63 steps", &long_distances());
 }
 
-/// The judges on this system with ranks of 0.
-fn judge(name: &'static str, system: &System, answer: Answer) {
-    let (left, right) = (&system.left_bytes(), &system.right_bytes());
-    let certificate = &system.certificate_with_any_ranks(&mut Random::new(0), 0);
-    let call = |judge: Judge| {
-        let (left, right) = (black_box(left), black_box(right));
-        black_box(judge(left, right, black_box(certificate)))
-    };
-    for (version, judge) in JUDGES {
-        assert_eq!(call(judge), answer, "{name}, {version}");
+/// The shapes of a relation for which a certificate is made, without keys and with four.
+fn shapes() -> [Shape; 6] {
+    [
+        Shape::new("all pairs related", all_related()),
+        Shape::new("chains of 63 steps", long_chains()),
+        Shape::new("distances of 63 steps", long_distances()),
+        Shape::with_keys(
+            "all pairs related, four keys",
+            all_related_with_keys(),
+            all_related(),
+        ),
+        Shape::with_keys(
+            "chains of 63 steps, four keys",
+            long_chains_with_keys(),
+            long_chains(),
+        ),
+        Shape::with_keys(
+            "distances of 63 steps, four keys",
+            long_distances_with_keys(),
+            long_distances(),
+        ),
+    ]
+}
+
+/// A call of each version on this shape, and where it has keys of the proved one on the shape
+/// without.
+fn calls<F: Copy>(
+    shape: &Shape,
+    versions: [(&'static str, F); 3],
+    call_on: impl Fn(F, &System) -> Call<'static>,
+) -> Vec<(&'static str, Call<'static>)> {
+    let on_shape = |(version, call)| (version, call_on(call, &shape.system));
+    let mut calls = Vec::from(versions.map(on_shape));
+    if let Some(without_keys) = &shape.without_keys {
+        let (_, proved) = versions[0];
+        calls.push((WITHOUT_KEYS, call_on(proved, without_keys)));
     }
-    let timed = |(version, judge)| (version, boxed(move || call(judge)));
+    calls
+}
+
+/// The judges on this shape with ranks of 0.
+fn judge(shape: &Shape, answer: Answer) {
+    let call_on = |judge: Judge, system: &System| {
+        let (left, right) = (system.left_bytes(), system.right_bytes());
+        let certificate = system.certificate_with_any_ranks(&mut Random::new(0), 0);
+        let call = move || {
+            let (left, right) = (black_box(&left), black_box(&right));
+            black_box(judge(left, right, black_box(&certificate)))
+        };
+        assert_eq!(call(), answer, "{}", shape.name);
+        boxed(call)
+    };
     report(&Contest {
-        name,
+        name: shape.name,
         work: match answer[0] {
             16 | 17 => (0, "obligations"),
-            _ => obligations(system),
+            _ => obligations(&shape.system),
         },
-        calls: JUDGES.map(timed).into(),
+        calls: calls(shape, JUDGES, call_on),
     });
 }
 
-/// The makers on this system, for which a certificate is made.
-fn make(name: &'static str, system: &System) {
-    make_by(
-        name,
-        system,
-        MAKERS,
-        |make, [left, right, relation], output| make(left, right, relation, output),
-    );
+/// The makers on this shape, for which a certificate is made.
+fn make(shape: &Shape) {
+    make_by(shape, MAKERS, |make, [left, right, relation], output, _| {
+        make(left, right, relation, output)
+    });
 }
 
-/// The commits on this system, for which a certificate is made, with the enquiry's slip.
-fn commit(name: &'static str, system: &System) {
-    let [left, right, relation] = files(system);
-    let (_, slip) = oracle::enquire(&left, &right, &relation);
+/// The commits on this shape, for which a certificate is made, with the enquiry's slip.
+fn commit(shape: &Shape) {
     make_by(
-        name,
-        system,
+        shape,
         COMMITS,
-        |commit, [left, right, relation], output| {
+        |commit, [left, right, relation], output, slip| {
             commit(left, right, relation, black_box(slip), output)
         },
     );
 }
 
-/// Whatever makes a certificate for this system, by how each is called.
-fn make_by<F: Copy>(
-    name: &'static str,
-    system: &System,
+/// Whatever makes a certificate for this shape, by how each is called with the enquiry's slip.
+fn make_by<F: Copy + 'static>(
+    shape: &Shape,
     versions: [(&'static str, F); 3],
-    make: impl Fn(F, [&[u8]; 3], &mut [u8]) -> Answer,
+    make: fn(F, [&[u8]; 3], &mut [u8], Slip) -> Answer,
 ) {
-    let files = files(system);
-    let (answer, certificate) = system.make();
-    let output = &RefCell::new(vec![0; certificate.len()]);
-    let call = |version: F| {
-        let output = &mut output.borrow_mut()[..];
-        let files = files.each_ref().map(|file| &black_box(file)[..]);
-        black_box(make(version, files, black_box(output)))
+    let call_on = |version: F, system: &System| {
+        let files = files(system);
+        let (_, slip) = oracle::enquire(&files[0], &files[1], &files[2]);
+        let (answer, certificate) = system.make();
+        let call = move |output: &mut [u8]| {
+            let files = files.each_ref().map(|file| &black_box(file)[..]);
+            black_box(make(version, files, black_box(output), slip))
+        };
+        let mut output = vec![0xa5; certificate.len()];
+        assert_eq!(call(&mut output), answer, "{}", shape.name);
+        assert!(output == certificate, "{}", shape.name);
+        let output = RefCell::new(output);
+        boxed(move || call(&mut output.borrow_mut()))
     };
-    for (version, make) in versions {
-        output.borrow_mut().fill(0xa5);
-        assert_eq!(call(make), answer, "{name}, {version}");
-        assert!(*output.borrow() == certificate, "{name}, {version}");
-    }
-    let call = &call;
-    let timed = |(version, make)| (version, boxed(move || call(make)));
     report(&Contest {
-        name,
-        work: obligations(system),
-        calls: versions.map(timed).into(),
+        name: shape.name,
+        work: obligations(&shape.system),
+        calls: calls(shape, versions, call_on),
     });
 }
 
-/// The enquiries on this system, for which a certificate can be made.
-fn enquire(name: &'static str, system: &System) {
-    let files = &files(system);
-    let call = |enquire: Enquire| {
-        let [left, right, relation] = black_box(files);
-        black_box(enquire(left, right, relation))
+/// The enquiries on this shape, for which a certificate can be made.
+fn enquire(shape: &Shape) {
+    let call_on = |enquire: Enquire, system: &System| {
+        let files = files(system);
+        let expected = oracle::enquire(&files[0], &files[1], &files[2]);
+        assert_eq!(expected.0[0], 0, "{}", shape.name);
+        let call = move || {
+            let [left, right, relation] = black_box(&files);
+            black_box(enquire(left, right, relation))
+        };
+        assert_eq!(call(), expected, "{}", shape.name);
+        boxed(call)
     };
-    let expected = call(oracle::enquire);
-    assert_eq!(expected.0[0], 0, "{name}");
-    for (version, enquire) in ENQUIRIES {
-        assert_eq!(call(enquire), expected, "{name}, {version}");
-    }
-    let timed = |(version, enquire)| (version, boxed(move || call(enquire)));
     report(&Contest {
-        name,
-        work: obligations(system),
-        calls: ENQUIRIES.map(timed).into(),
+        name: shape.name,
+        work: obligations(&shape.system),
+        calls: calls(shape, ENQUIRIES, call_on),
     });
 }
 
@@ -402,11 +461,16 @@ fn last_fails() -> System {
     let step = |j: usize| Step {
         from: j % 63,
         to: (j % 63 + j / 63 + 1) % 63,
+        key: 0,
     };
     let mut system = all_related();
     system.left.steps = (0..256).map(step).collect();
     system.right.steps = (0..255).map(step).collect();
-    system.right.steps.push(Step { from: 63, to: 0 });
+    system.right.steps.push(Step {
+        from: 63,
+        to: 0,
+        key: 0,
+    });
     for i in 0..63 {
         system.related[i][63] = false;
         system.related[63][i] = false;
@@ -425,10 +489,11 @@ fn report(contest: &Contest) {
     for (i, (version, _)) in contest.calls.iter().enumerate().skip(1) {
         // Of each round, so that a slow round is slow for both.
         let ratio = median(rounds.iter().map(|times| times[0] / times[i]));
-        println!(
-            "    {ratio:.3} of the {version}'s time, {:.1} us",
-            time(i) / 1e3
-        );
+        let whose = match *version {
+            WITHOUT_KEYS => "its own time without keys".to_string(),
+            version => format!("the {version}'s time"),
+        };
+        println!("    {ratio:.3} of {whose}, {:.1} us", time(i) / 1e3);
     }
 }
 

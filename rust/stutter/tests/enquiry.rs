@@ -2,7 +2,7 @@
 //! what is promised of the two together.
 
 use compare::EnquiryAndCommit;
-use inputs::{all_related, long_chains, long_distances, spaced};
+use inputs::{all_related, fullest_with_keys, long_chains, long_distances, spaced};
 use inputs::{CommitCase, CommitCases, MakeCase, MakeCases, Random, System};
 use oracle::{Answer, Slip};
 use std::thread;
@@ -16,7 +16,7 @@ fn any_places(random: &mut Random, length: usize) -> Vec<u64> {
 #[test]
 fn the_enquiry_equals_the_oracle() {
     let mut random = Random::new(91);
-    let compared = compare::enquire(100_000, 91, |left, right, relation| {
+    let compared = compare::enquire(220_000, 91, |left, right, relation| {
         let length = random.within(4, 7);
         let places = any_places(&mut random, length);
         let (mut slip, mut answer) = (places.clone(), [0; 6]);
@@ -32,7 +32,7 @@ fn the_enquiry_equals_the_oracle() {
 #[test]
 fn the_commit_equals_the_oracle() {
     let mut random = Random::new(92);
-    let compared = compare::commit(100_000, 92, |left, right, relation, slip, output| {
+    let compared = compare::commit(220_000, 92, |left, right, relation, slip, output| {
         let further = random.below(4);
         let slip = [&slip[..], &any_places(&mut random, further)].concat();
         stutter::commit_with(left, right, relation, &slip, output)
@@ -48,7 +48,7 @@ fn the_enquiry_and_the_commit_do_as_promised() {
         commit: stutter::commit,
         make: stutter::make,
     };
-    proved.require_promised(100_000, 93).require_all();
+    proved.require_promised(220_000, 93).require_all();
 }
 
 /// A slip is that of its enquiry, and equal to another exactly where the numbers are.
@@ -68,18 +68,21 @@ fn a_slip_has_the_numbers_of_its_enquiry() {
     assert!(compared.iter().all(|&times| times > 300), "{compared:?}");
 }
 
-/// 64 states and 256 steps a side in every mix of versions.
+/// 64 states and 256 steps a side in every mix of versions and with keys.
 fn largest() -> impl Iterator<Item = System> {
     let systems = [all_related(), long_chains(), long_distances()];
-    let both = systems.map(|system| [system.clone(), system.exchanged()]);
-    let both = both.into_iter().flatten();
-    both.flat_map(|system| system.in_all_versions())
+    let both = |system: System| [system.clone(), system.exchanged()];
+    let without_keys = systems.map(both).into_iter().flatten();
+    let with_keys = fullest_with_keys().map(both).into_iter().flatten();
+    without_keys
+        .flat_map(|system| system.in_all_versions())
+        .chain(with_keys.map(System::with_all_starts))
 }
 
-/// The longest tables have 784 bytes and 512 bytes of rows.
+/// The longest tables have 1,040 bytes, 784 without keys, and 512 bytes of rows.
 #[test]
 fn the_largest_certificates_are_made() {
-    let mut longest = 0;
+    let mut longest = [0, 0];
     for system in largest() {
         let (left, right) = (system.left_bytes(), system.right_bytes());
         let relation = system.relation_bytes();
@@ -93,9 +96,10 @@ fn the_largest_certificates_are_made() {
             answer
         );
         assert!(output == system.certificate(), "the certificates differ");
-        longest = longest.max(left.len().min(right.len()));
+        let longest = &mut longest[usize::from(system.has_keys())];
+        *longest = left.len().min(right.len()).max(*longest);
     }
-    assert_eq!(longest, 784);
+    assert_eq!(longest, [784, 1_040]);
 }
 
 /// A stack of 1 MiB is enough for the largest tables.

@@ -1,9 +1,10 @@
 //! The systems under `examples/systems`: made and judged, or refused, with the
-//! numbers that stand in their files; and runs of those accepted, followed on both sides.
+//! numbers that stand in their files; and runs of those accepted, followed on both sides, or
+//! refused where the tables have keys.
 
 use compare::Given;
 use inputs::System;
-use oracle::Table;
+use oracle::{Form, Table};
 use std::fs;
 use std::path::Path;
 use text::Example;
@@ -19,7 +20,7 @@ fn the_systems_get_the_answers_beside_them() {
         }
     }
     codes.sort();
-    assert_eq!(codes, [0, 0, 0, 0, 0, 16, 17, 22, 23, 23]);
+    assert_eq!(codes, [0, 0, 0, 0, 0, 0, 16, 17, 22, 22, 23, 23, 23]);
 }
 
 /// Makes and judges one system, follows runs of each side where it is accepted, and gives
@@ -50,7 +51,11 @@ fn run(path: &Path) -> u64 {
                 path: &long_path(system.table(side), first),
             };
             let run = format!("{name}, side {side} from {first} and {start}");
-            follow(&run, &given);
+            if system.has_keys() {
+                is_not_followed(&run, &given);
+            } else {
+                follow(&run, &given);
+            }
         }
     } else {
         assert_eq!(example.judge, None, "{name}: there is nothing to judge");
@@ -58,11 +63,12 @@ fn run(path: &Path) -> u64 {
     made[0]
 }
 
-/// The system of these bytes, which are those that the tests' own code gives it in version 4.
+/// The system of these bytes, which are those that the tests' own code gives it: in version 4,
+/// or with keys.
 fn read(example: &Example) -> System {
     let table = |bytes: &[u8], file| {
         let table = oracle::read_table(bytes, file).expect("the table is well formed");
-        assert_eq!(table.version, 4);
+        assert!([Form::tpt(4), Form::TPK].contains(&table.form));
         table
     };
     let (left, right) = (table(&example.left, 0), table(&example.right, 1));
@@ -108,6 +114,14 @@ fn long_path(table: &Table, first: usize) -> Vec<u8> {
         path.push(state as u8);
     }
     path
+}
+
+/// "The follower of runs takes TPT only and answers 2 for TPK."
+fn is_not_followed(name: &str, given: &Given) {
+    let (mut states, mut blocks) = ([0xa5; 49_152], [0xa5; 512]);
+    let answer = given.ask(stutter::follow, &mut states, &mut blocks);
+    assert_eq!(answer, [2, 0, 0, 0, 0, 0], "{name}");
+    assert!(states == [0xa5; 49_152] && blocks == [0xa5; 512], "{name}");
 }
 
 /// Follows a run, beside the oracle, and holds it to demand 3.

@@ -1,14 +1,14 @@
 //! The proved follower, through the C interface, beside the oracle.
 
 use compare::Given;
-use inputs::{all_related, long_chains, long_distances, long_waits, spaced};
+use inputs::{all_related, fullest_with_keys, long_chains, long_distances, long_waits, spaced};
 use inputs::{FollowCase, FollowCases, Random, System};
 use oracle::Answer;
 use std::thread;
 
 #[test]
 fn the_follower_equals_the_oracle() {
-    compare::follow(100_000, 61, stutter::follow).require_all();
+    compare::follow(115_000, 61, stutter::follow).require_all();
 }
 
 /// The oracle's answer, and these outputs after it.
@@ -115,12 +115,38 @@ fn the_longest_outputs_always_serve() {
         let (mut states, mut blocks) = ([0; 49_152], [0; 512]);
         let answer = Given::of(&case).ask(stutter::follow, &mut states, &mut blocks);
         assert_ne!(answer[0], 27);
-        if case.label.starts_with("27") {
+        let mut tables = [&case.left, &case.right].into_iter();
+        let has_keys = tables.any(|table| table.starts_with(b"TPK"));
+        if case.label.starts_with("27") && !has_keys {
             assert_eq!(answer[0], 0);
             too_short += 1;
         }
     }
     assert!(too_short >= 100, "{too_short}");
+}
+
+/// "The follower of runs takes TPT only and answers 2 for TPK", at full size too and with a
+/// certificate that the judge accepts.
+#[test]
+fn tables_with_keys_are_not_taken() {
+    for system in fullest_with_keys() {
+        let (left, right) = (system.left_bytes(), system.right_bytes());
+        let certificate = system.certificate();
+        assert_eq!(stutter::judge(&left, &right, &certificate)[0], 0);
+        let (mut states, mut blocks) = (vec![0xa5; 49_152], vec![0xa5; 512]);
+        let given = Given {
+            left: &left,
+            right: &right,
+            certificate: &certificate,
+            side: 0,
+            start: 0,
+            path: &[0],
+        };
+        let answer = given.ask(stutter::follow, &mut states, &mut blocks);
+        assert_eq!(answer, [2, 0, 0, 0, 0, 0]);
+        let mut outputs = states.iter().chain(&blocks);
+        assert!(outputs.all(|&byte| byte == 0xa5), "an output is touched");
+    }
 }
 
 /// Long runs of the left table from its start, with how many states are written.

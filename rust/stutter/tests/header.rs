@@ -120,7 +120,7 @@ fn the_maker_in_c_equals_the_oracle() {
     let room = Room::telling("make");
     let path = room.path("certificate");
     let mut seen = BTreeSet::new();
-    for case in MakeCases::new(42, 1_000) {
+    for case in MakeCases::new(45, 1_000) {
         let files = [&case.left[..], &case.right, &case.relation];
         let (enquired, slip) = oracle::enquire(files[0], files[1], files[2]);
         let words = [room.put(files), vec![path.clone()]].concat();
@@ -139,7 +139,7 @@ fn the_maker_in_c_equals_the_oracle() {
         assert_eq!(room.take(&path), certificate);
         seen.insert(enquired[0]);
     }
-    let refusals = (1..=9).chain([15, 16, 17, 20, 22, 23, 24, 28]);
+    let refusals = (1..=9).chain([15, 16, 17, 20, 22, 23, 24, 28, 30]);
     assert!(seen.into_iter().eq([0].into_iter().chain(refusals)));
 }
 

@@ -1,10 +1,16 @@
 //! The proved judge, through the C interface, beside the oracle.
 
-use inputs::{spaced, JudgeCases};
+use inputs::{spaced, JudgeCases, VERSIONS};
 
 #[test]
 fn the_judge_equals_the_oracle() {
     compare::judge(300_000, 21, stutter::judge).require_all();
+}
+
+/// As many files without keys alone: they keep their answers.
+#[test]
+fn the_judge_equals_the_oracle_without_keys() {
+    compare::judge_in(VERSIONS, 300_000, 26, stutter::judge).require_all();
 }
 
 /// As many files with marks of 16 bits alone: they keep their answers.

@@ -1,7 +1,7 @@
 //! The proved maker, through the C interface, beside the oracle.
 
-use inputs::{all_related, long_chains, long_distances, spaced};
-use inputs::{MakeCase, MakeCases, Random, System};
+use inputs::{all_related, fullest_with_keys, long_chains, long_distances, spaced};
+use inputs::{MakeCase, MakeCases, Random, System, VERSIONS};
 
 /// The proved maker, and the proved judge on each certificate that it makes.
 fn make_and_judge(left: &[u8], right: &[u8], relation: &[u8], output: &mut [u8]) -> [u64; 6] {
@@ -20,35 +20,50 @@ fn the_maker_equals_the_oracle() {
     compare::make(100_000, 25, make_and_judge).require_all();
 }
 
+/// As many files without keys alone: they keep their answers.
+#[test]
+fn the_maker_equals_the_oracle_without_keys() {
+    compare::make_in(VERSIONS, 100_000, 29, make_and_judge).require_all();
+}
+
 /// As many files with marks of 16 bits alone: they keep their answers.
 #[test]
 fn the_maker_equals_the_oracle_on_older_versions() {
     compare::make_in(&[1, 2, 3], 100_000, 24, make_and_judge).require_all();
 }
 
-/// 64 states and 256 steps a side, in every mix of versions, with as many starts as a
-/// version lets them have: all pairs related, chains of 63 steps, chases of 63 steps.
+/// 64 states and 256 steps a side, in every mix of versions and with keys, with as many
+/// starts as a table can have: all pairs related, chains of 63 steps, chases of 63 steps.
+fn largest() -> Vec<System> {
+    let mut largest = Vec::new();
+    for system in [all_related(), long_chains(), long_distances()] {
+        largest.extend(system.in_all_versions());
+        largest.extend(system.exchanged().in_all_versions());
+    }
+    for system in fullest_with_keys() {
+        let both = [system.clone(), system.exchanged()];
+        largest.extend(both.map(System::with_all_starts));
+    }
+    largest
+}
+
 #[test]
 fn the_largest_certificates_are_made() {
-    for system in [all_related(), long_chains(), long_distances()] {
-        let both = [system.clone(), system.exchanged()];
-        for system in both.iter().flat_map(System::in_all_versions) {
-            let (left, right) = (system.left_bytes(), system.right_bytes());
-            let (expected, certificate) = system.make();
-            assert_eq!(expected, [0, 0, 41_483, 0, 0, 0]);
-            let mut output = vec![0xa5; 41_483];
-            let made = make_and_judge(&left, &right, &system.relation_bytes(), &mut output);
-            assert_eq!(made, expected);
-            assert!(output == certificate, "the certificates differ");
-        }
+    for system in largest() {
+        let (left, right) = (system.left_bytes(), system.right_bytes());
+        let (expected, certificate) = system.make();
+        assert_eq!(expected, [0, 0, 41_483, 0, 0, 0]);
+        let mut output = vec![0xa5; 41_483];
+        let made = make_and_judge(&left, &right, &system.relation_bytes(), &mut output);
+        assert_eq!(made, expected);
+        assert!(output == certificate, "the certificates differ");
     }
 }
 
 /// A stack of 1 MiB is enough for the largest tables.
 #[test]
 fn a_small_stack_is_enough() {
-    let largest = [all_related(), long_chains(), long_distances()];
-    for system in largest.iter().flat_map(System::in_all_versions) {
+    for system in largest() {
         let (left, right) = (system.left_bytes(), system.right_bytes());
         let relation = system.relation_bytes();
         let mut output = vec![0; 41_483];

@@ -1,7 +1,8 @@
 //! The built programs beside the oracle's, and how they behave as processes.
 
 use compare::Report;
-use inputs::joined;
+use inputs::{any_system, joined, save_in, Forms, Random};
+use oracle::Form;
 use std::fs::File;
 use std::io::{ErrorKind, Read, Seek, Write};
 use std::path::{Path, PathBuf};
@@ -27,14 +28,14 @@ static PROGRAMS: [Program; 2] = [
     Program {
         name: "judge",
         oracle: oracle::program,
-        compared: |program| compare::program(8_000, 31, |input| program.run(input)),
+        compared: |program| compare::program(18_000, 34, |input| program.run(input)),
         example: "0 0 3 4 1 1\n",
         most_lines: 1,
     },
     Program {
         name: "listing",
         oracle: oracle::listing_program,
-        compared: |program| compare::listing(8_000, 32, |input| program.run(input)),
+        compared: |program| compare::listing(18_000, 32, |input| program.run(input)),
         example: "0 0 0 0 3 1\n1 0 0 0 2 0\n0 0 1 0 1 2\n\
                   1 0 1 1 1 1\n0 1 2 1 1 0\n1 1 2 2 1 0\n",
         most_lines: 32_768,
@@ -127,14 +128,42 @@ fn later_examples() -> [Vec<u8>; 2] {
     })
 }
 
-/// 64 states, 64 starts and 256 steps a side, every pair related: the longest tables and
-/// the longest certificate.
+/// P, Q and K with keys: 0-1 of P and 1-2 of Q have key 1, 1-0 of P and 2-0 of Q key 2, and
+/// the pause 0-1 of Q is silent.
+fn example_with_keys() -> Vec<u8> {
+    let input = example();
+    let [_, _, k] = oracle::pieces(&input);
+    let start = [0, 0, 0, 0, 0, 0, 0, 1];
+    let p = [
+        &b"TPK\0\x01\x02"[..],
+        &start,
+        &[0, 2, 0, 0, 0, 0, 0, 0, 0, 1],
+        &[0, 1, 1, 1, 0, 2],
+    ];
+    let q = [
+        &b"TPK\0\x01\x03"[..],
+        &start,
+        &[0, 3, 0, 0, 0, 0, 0, 0, 0, 0, 0, 0, 0, 1],
+        &[0, 1, 0, 1, 2, 1, 2, 0, 2],
+    ];
+    joined(&[p.concat(), q.concat(), k.to_vec()])
+}
+
+/// 64 states, 64 starts and 256 steps a side, every pair related, and keys: the longest
+/// tables and the longest certificate.
 fn largest_accepted() -> Vec<u8> {
+    let input = inputs::all_related_with_keys().with_all_starts().input();
+    assert_eq!(input.len(), 3 * 2 + 2 * (16 + 4 * 64 + 3 * 256) + 41_483);
+    let starts = &input[2 + 6..2 + 14];
+    assert_eq!(starts, [0xff; 8]);
+    input
+}
+
+/// The same without keys.
+fn largest_without_keys() -> Vec<u8> {
     let systems = inputs::all_related().in_all_versions();
     let input = systems[systems.len() - 1].input();
     assert_eq!(input.len(), 3 * 2 + 2 * (16 + 4 * 64 + 2 * 256) + 41_483);
-    let starts = &input[2 + 6..2 + 14];
-    assert_eq!(starts, [0xff; 8]);
     input
 }
 
@@ -146,7 +175,8 @@ fn thrice(piece: &[u8]) -> Vec<u8> {
 #[test]
 fn the_examples_are_the_documents() {
     for program in &PROGRAMS {
-        for input in later_examples().into_iter().chain([example()]) {
+        let others = [example(), example_with_keys()];
+        for input in later_examples().into_iter().chain(others) {
             assert_eq!((program.oracle)(&input), program.example);
             assert_eq!(program.run(&input), program.example);
         }
@@ -160,6 +190,35 @@ fn the_programs_equal_the_oracle() {
             scope.spawn(|| (program.compared)(program).require_all());
         }
     });
+}
+
+/// Tables of version 3 or 4 and the same with every key 0 get the same lines.
+#[test]
+fn silent_steps_are_steps_without_keys() {
+    let mut random = Random::new(33);
+    let mut accepted = 0;
+    for _ in 0..200 {
+        let system = any_system(&mut random, Forms::Tpt(&[3, 4]));
+        let (answer, made) = system.make();
+        let certificate = if answer[0] == 0 {
+            made
+        } else {
+            system.certificate_with_any_ranks(&mut random, 3)
+        };
+        let mut keyed = system.clone();
+        save_in(&mut keyed.left, Form::TPK);
+        save_in(&mut keyed.right, Form::TPK);
+        let inputs = [system, keyed].map(|system| {
+            let tables = [system.left_bytes(), system.right_bytes()];
+            joined(&[&tables[..], &[certificate.clone()]].concat())
+        });
+        for program in &PROGRAMS {
+            let [without, with] = inputs.each_ref().map(|input| program.run(input));
+            assert!(without == with, "{} differs", program.name);
+        }
+        accepted += usize::from(answer[0] == 0);
+    }
+    assert!(accepted >= 50, "{accepted}");
 }
 
 /// The answer comes while the input is still open, with later bytes or without.
@@ -239,9 +298,15 @@ fn later_bytes_are_not_read() {
 #[test]
 fn a_small_stack_is_enough() {
     let (longest, fullest) = (thrice(&[0xff; 65_535]), largest_accepted());
+    let without_keys = largest_without_keys();
     assert_eq!(longest.len(), MOST);
     for program in &PROGRAMS {
-        for (input, lines) in [(&longest, 1), (&fullest, program.most_lines)] {
+        let most_lines = program.most_lines;
+        for (input, lines) in [
+            (&longest, 1),
+            (&fullest, most_lines),
+            (&without_keys, most_lines),
+        ] {
             let mut shell = Command::new("sh");
             shell
                 .arg("-c")

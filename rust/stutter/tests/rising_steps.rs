@@ -2,7 +2,8 @@
 
 mod shared;
 
-use inputs::{any_system, save_in, Random, System};
+use inputs::{any_system, save_in, Forms, Random, System};
+use oracle::Form;
 use shared::answers;
 
 /// The same system with its steps in another order, both saved in this version.
@@ -11,7 +12,7 @@ fn saved_twice(random: &mut Random, system: &System, version: u16) -> [System; 2
     for system in &mut systems {
         for table in [&mut system.left, &mut system.right] {
             random.shuffle(&mut table.steps);
-            save_in(table, version);
+            save_in(table, Form::tpt(version));
         }
     }
     systems
@@ -24,7 +25,7 @@ fn where_steps_rise_both_get_the_same_step_numbers() {
     let mut random = Random::new(51);
     let mut told_apart = [0, 0];
     for _ in 0..3_000 {
-        let system = any_system(&mut random, &[1]);
+        let system = any_system(&mut random, Forms::Tpt(&[1]));
         let certificate = system.certificate_with_any_ranks(&mut random, 3);
         let ranks = &certificate[11..];
 

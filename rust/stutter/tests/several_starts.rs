@@ -3,7 +3,8 @@
 
 mod shared;
 
-use inputs::{any_system, save_in, Random};
+use inputs::{any_system, save_in, Forms, Random};
+use oracle::Form;
 use shared::answers;
 
 /// "The new analyser can wake idle or wake paused." Byte by byte: the old one has the states
@@ -74,7 +75,7 @@ fn one_start_in_a_word_is_the_start() {
     let mut random = Random::new(81);
     let (mut same, mut unpaired) = (0, 0);
     for _ in 0..3_000 {
-        let mut before = any_system(&mut random, &[2]);
+        let mut before = any_system(&mut random, Forms::Tpt(&[2]));
         if random.percent(20) {
             before.left.starts = vec![random.below(before.left.states())];
         }
@@ -83,8 +84,8 @@ fn one_start_in_a_word_is_the_start() {
         let (made, output, judged) = answers(&before, ranks);
         for [left, right] in [[2, 3], [3, 2], [3, 3]] {
             let mut after = before.clone();
-            save_in(&mut after.left, left);
-            save_in(&mut after.right, right);
+            save_in(&mut after.left, Form::tpt(left));
+            save_in(&mut after.right, Form::tpt(right));
             let (made_after, output_after, judged_after) = answers(&after, ranks);
             if made[0] == 16 {
                 // Neither start is paired, and the left one comes first.

@@ -3,7 +3,8 @@
 
 mod shared;
 
-use inputs::{any_system, save_in, Random, System};
+use inputs::{any_system, save_in, Forms, Random, System};
+use oracle::Form;
 use shared::answers;
 
 /// "The panel has gained more lamps than 16 bits can tell." Byte by byte: the old analyser is
@@ -84,7 +85,7 @@ fn a_mark_is_the_same_number_in_32_bits() {
     let mut random = Random::new(91);
     let mut seen = Seen::default();
     for _ in 0..3_000 {
-        let mut before = any_system(&mut random, &[3]);
+        let mut before = any_system(&mut random, Forms::Tpt(&[3]));
         if random.percent(20) {
             let state = random.below(before.left.states());
             before.left.marks[state] = random.below(65_536) as u32;
@@ -93,8 +94,8 @@ fn a_mark_is_the_same_number_in_32_bits() {
         let expected = answers(&before, &certificate[11..]);
         for [left, right] in [[3, 4], [4, 3], [4, 4]] {
             let mut after = before.clone();
-            save_in(&mut after.left, left);
-            save_in(&mut after.right, right);
+            save_in(&mut after.left, Form::tpt(left));
+            save_in(&mut after.right, Form::tpt(right));
             assert!(answers(&after, &certificate[11..]) == expected);
         }
         seen.see(expected.0);
@@ -109,7 +110,7 @@ fn a_mark_is_any_number_of_32_bits() {
     let mut random = Random::new(92);
     let mut seen = Seen::default();
     for _ in 0..3_000 {
-        let mut system = any_system(&mut random, &[4]);
+        let mut system = any_system(&mut random, Forms::Tpt(&[4]));
         if random.percent(20) {
             let state = random.below(system.left.states());
             system.left.marks[state] ^= 1 << random.below(32);
@@ -134,7 +135,7 @@ fn every_bit_of_a_mark_counts() {
     let mut random = Random::new(93);
     let mut turned = [[0; 32]; 2];
     for _ in 0..2_000 {
-        let mut system = any_system(&mut random, &[4]);
+        let mut system = any_system(&mut random, Forms::Tpt(&[4]));
         let (left, right) = (system.left_bytes(), system.right_bytes());
         let mut output = vec![0; system.layout().length()];
         let relation = system.relation_bytes();

@@ -1,9 +1,9 @@
 //! The proved writer, through the C interface, beside the oracle; and what is promised of two
 //! tables that it writes.
 
-use inputs::{any_system, save_in, spaced, table_bytes, Random, VERSIONS};
+use inputs::{any_system, save_in, spaced, table_bytes, Forms, Random, VERSIONS};
 use inputs::{WriteCase, WriteCases};
-use oracle::{read_table, Answer, Step, Table};
+use oracle::{read_table, Answer, Form, Step, Table};
 use std::collections::{BTreeMap, BTreeSet};
 use std::thread;
 
@@ -144,7 +144,7 @@ fn what_is_written_is_read_back() {
             continue;
         };
         let table = read_table(&bytes, 0).expect("the table is well formed");
-        assert_eq!(table.version, 4);
+        assert_eq!(table.form, Form::tpt(4));
         assert_eq!(table.marks, case.marks);
         let starts = (0..64).filter(|&s| case.starts >> s & 1 == 1);
         assert!(starts.eq(table.starts));
@@ -302,7 +302,7 @@ fn written(random: &mut Random, table: &Table) -> Vec<u8> {
     let (_, bytes) = write(&table.marks, starts, &steps);
     let bytes = bytes.expect("the table is written");
     let mut saved = table.clone();
-    save_in(&mut saved, 4);
+    save_in(&mut saved, Form::tpt(4));
     assert_eq!(bytes, table_bytes(&saved));
     bytes
 }
@@ -314,7 +314,7 @@ fn what_is_written_is_made_and_judged() {
     let mut random = Random::new(79);
     let (mut accepted, mut refused) = (0, 0);
     for _ in 0..2_000 {
-        let system = any_system(&mut random, VERSIONS);
+        let system = any_system(&mut random, Forms::Tpt(VERSIONS));
         let left = written(&mut random, &system.left);
         let right = written(&mut random, &system.right);
         let relation = system.relation_bytes();

@@ -1,5 +1,6 @@
 //! Tables and relations in a readable form, as under `examples/systems`, where its
-//! README says what each line means. The tables are written by the proved writer.
+//! README says what each line means. Tables without keys are written by the proved writer,
+//! which writes no others; those with keys are laid out here.
 
 use std::fs;
 use std::path::{Path, PathBuf};
@@ -16,16 +17,26 @@ pub struct Example {
     pub judge: Option<Answer>,
 }
 
-/// A table whose states and labels have names.
+/// A table whose states, labels and keys have names.
 #[derive(Default)]
 struct Named {
     file: PathBuf,
     states: Vec<String>,
     labels: Vec<(String, u32)>,
+    /// The keys that have names. Where there is one, it is a table with keys.
+    keys: Vec<(String, u8)>,
     marks: Vec<u32>,
     starts: Vec<usize>,
-    /// From and to.
-    steps: Vec<[usize; 2]>,
+    steps: Vec<Step>,
+}
+
+/// Steps are compared by from, to, key.
+#[derive(Clone, Copy, PartialEq, Eq, PartialOrd, Ord)]
+struct Step {
+    from: usize,
+    to: usize,
+    /// 0 where the step is silent.
+    key: u8,
 }
 
 /// A line that is not empty: where it stands, and its words.
@@ -115,12 +126,20 @@ fn read_table(path: &Path) -> Result<Named, String> {
                 }
                 table.starts.push(start);
             }
-            ["step", from, "->", ends @ ..] => {
-                let from = line.state(&table, from)?;
-                for to in ends {
-                    let to = line.state(&table, to)?;
-                    table.steps.push([from, to]);
+            ["key", number, name] => {
+                let key = line.key_number(number)?;
+                let known = |(known, number): &(String, u8)| known == name || *number == key;
+                if table.keys.iter().any(known) {
+                    return line.fail("names a key twice");
                 }
+                table.keys.push((name.to_string(), key));
+            }
+            ["step", from, "->", ends @ ..] => line.add_steps(&mut table, from, 0, ends)?,
+            ["step", from, key, "->", ends @ ..] => {
+                let Some(&(_, key)) = table.keys.iter().find(|(name, _)| name == key) else {
+                    return line.fail("has a key that no line before it names");
+                };
+                line.add_steps(&mut table, from, key, ends)?;
             }
             _ => return line.fail("is no line of a table"),
         }
@@ -136,35 +155,87 @@ fn word(states: impl IntoIterator<Item = usize>) -> u64 {
 }
 
 impl Named {
-    /// The bytes of the table. A state above 63 has no bit and one above 255 no byte, but with
-    /// so many states the writer looks no further.
+    /// The bytes of the table.
     fn written(&self) -> Result<Vec<u8>, String> {
-        let starts = word(self.starts.iter().copied());
-        let step = |&[from, to]: &[usize; 2]| (from * 256 + to) as u16;
+        let written = if self.keys.is_empty() {
+            self.written_without_keys()
+        } else {
+            self.laid_out()
+        };
+        written.map_err(|why| format!("{}: {why}", self.file.display()))
+    }
+
+    /// The bytes of a table without keys, by the proved writer. A state above 63 has no bit and
+    /// one above 255 no byte, but with so many states the writer looks no further.
+    fn written_without_keys(&self) -> Result<Vec<u8>, String> {
+        let step = |step: &Step| (step.from * 256 + step.to) as u16;
         let steps: Vec<u16> = self.steps.iter().map(step).collect();
         let mut output = vec![0; TABLE_MOST];
-        let answer = stutter::write(&self.marks, starts, &steps, &mut output);
-        if answer[0] == 0 {
-            output.truncate(answer[2] as usize);
-            Ok(output)
-        } else {
-            Err(format!("{}: {}", self.file.display(), self.refused(answer)))
+        let answer = stutter::write(&self.marks, self.start_word(), &steps, &mut output);
+        match answer[0] {
+            0 => {
+                output.truncate(answer[2] as usize);
+                Ok(output)
+            }
+            // Names are those of states and the output is long enough, so it has no other.
+            4 => Err(self.wrong_states()),
+            28 => Err(self.no_start()),
+            6 => Err(self.too_many_steps()),
+            9 => Err(self.step_twice(answer[2] as usize)),
+            _ => Err(format!("the writer answers {answer:?}")),
         }
     }
 
-    /// What is wrong, by the writer's answer. Names are those of states and the output is long
-    /// enough, so it has no other.
-    fn refused(&self, answer: Answer) -> String {
-        match answer[0] {
-            4 => format!("it has {} states; a table has 1 to 64", self.states.len()),
-            28 => "it has no line 'start'".to_string(),
-            6 => format!("it has {} steps; a table has at most 256", self.steps.len()),
-            9 => {
-                let [from, to] = self.steps[answer[2] as usize].map(|state| &self.states[state]);
-                format!("the step {from} -> {to} stands twice")
-            }
-            _ => format!("the writer answers {answer:?}"),
+    /// The bytes of a table with keys: "TPK", version 1, then as in version 4 of the others, but
+    /// steps of three bytes. What is wrong is looked for in the writer's order.
+    fn laid_out(&self) -> Result<Vec<u8>, String> {
+        let (n, m) = (self.states.len(), self.steps.len());
+        if !(1..=64).contains(&n) {
+            return Err(self.wrong_states());
         }
+        if self.starts.is_empty() {
+            return Err(self.no_start());
+        }
+        if m > 256 {
+            return Err(self.too_many_steps());
+        }
+        if let Some(j) = (0..m).find(|&j| self.steps[..j].contains(&self.steps[j])) {
+            return Err(self.step_twice(j));
+        }
+        let mut rising = self.steps.clone();
+        rising.sort();
+        let mut bytes = b"TPK\0\x01".to_vec();
+        bytes.push(n as u8);
+        bytes.extend(self.start_word().to_be_bytes());
+        bytes.extend((m as u16).to_be_bytes());
+        bytes.extend(self.marks.iter().flat_map(|mark| mark.to_be_bytes()));
+        let step = |step: &Step| [step.from as u8, step.to as u8, step.key];
+        bytes.extend(rising.iter().flat_map(step));
+        Ok(bytes)
+    }
+
+    fn start_word(&self) -> u64 {
+        word(self.starts.iter().copied())
+    }
+
+    fn wrong_states(&self) -> String {
+        format!("it has {} states; a table has 1 to 64", self.states.len())
+    }
+
+    fn no_start(&self) -> String {
+        "it has no line 'start'".to_string()
+    }
+
+    fn too_many_steps(&self) -> String {
+        format!("it has {} steps; a table has at most 256", self.steps.len())
+    }
+
+    fn step_twice(&self, j: usize) -> String {
+        let Step { from, to, key } = self.steps[j];
+        let [from, to] = [from, to].map(|state| &self.states[state]);
+        let name = self.keys.iter().find(|(_, number)| *number == key);
+        let key = name.map_or(String::new(), |(name, _)| format!("{name} "));
+        format!("the step {from} {key}-> {to} stands twice")
     }
 }
 
@@ -198,6 +269,30 @@ impl Line {
         match table.states.iter().position(|state| state == name) {
             Some(state) => Ok(state),
             None => self.fail("names a state that the table does not have"),
+        }
+    }
+
+    /// Adds a step with this key to each of these ends.
+    fn add_steps(
+        &self,
+        table: &mut Named,
+        from: &str,
+        key: u8,
+        ends: &[&str],
+    ) -> Result<(), String> {
+        let from = self.state(table, from)?;
+        for to in ends {
+            let to = self.state(table, to)?;
+            table.steps.push(Step { from, to, key });
+        }
+        Ok(())
+    }
+
+    /// The number of a key. That of a silent step is none.
+    fn key_number(&self, word: &str) -> Result<u8, String> {
+        match self.number::<u64>(word)? {
+            key @ 1..=255 => Ok(key as u8),
+            _ => self.fail("has a key that is not 1 to 255"),
         }
     }
 
@@ -289,6 +384,42 @@ mod tests {
         assert_eq!(left, table(0b10011, &marks, &steps));
     }
 
+    /// The table with keys with these starts, marks and steps.
+    fn keyed_table(starts: u8, marks: &[[u8; 4]], steps: &[[u8; 3]]) -> Vec<u8> {
+        let header = [b"TPK\0\x01", &[marks.len() as u8][..]].concat();
+        let starts = [0, 0, 0, 0, 0, 0, 0, starts];
+        let m = [0, steps.len() as u8];
+        let parts = [&header[..], &starts, &m, &marks.concat(), &steps.concat()];
+        parts.concat()
+    }
+
+    /// A line `key` makes it a table with keys. The steps rise by from, to, key, and those
+    /// without a key are silent.
+    #[test]
+    fn steps_with_keys_are_laid_out() {
+        let lines = format!("key 255 stop\n{TABLE}key 7 go\nstep a stop -> c b\nstep a go -> c\n");
+        let read = |lines: &str| {
+            let example = read_lines(lines, "related equal labels\nmake 0 0 0 0 0 0\n");
+            example.expect("the files can be read")
+        };
+        let marks = [[0, 0, 0, 7], [0, 0, 1, 2], [0, 0, 0, 7]];
+        let steps = [
+            [0, 1, 0],
+            [0, 1, 255],
+            [0, 2, 0],
+            [0, 2, 7],
+            [0, 2, 255],
+            [2, 0, 0],
+        ];
+        let expected = keyed_table(0b010, &marks, &steps);
+        assert_eq!(expected.len(), 16 + 4 * 3 + 3 * 6);
+        assert_eq!(read(&lines).left, expected);
+        assert_eq!(read(&lines).right, expected);
+        let silent = [[0, 1, 0], [0, 2, 0], [2, 0, 0]];
+        let unused = read(&format!("key 1 go\n{TABLE}")).left;
+        assert_eq!(unused, keyed_table(0b010, &marks, &silent));
+    }
+
     #[test]
     fn equal_labels_are_related() {
         let example = read_lines(TABLE, "related equal labels\nmake 0 0 0 0 0 0\n");
@@ -318,7 +449,36 @@ mod tests {
             states(n) + &steps.collect::<String>()
         };
         let told = |lines: String| read_lines(&lines, "make 0 0 0 0 0 0\n").err();
+        let keyed = |lines: String| format!("key 1 go\nkey 2 stop\n{lines}");
         for (lines, expected) in [
+            (
+                keyed(states(0)),
+                "/table: it has 0 states; a table has 1 to 64",
+            ),
+            (
+                keyed(states(65)),
+                "/table: it has 65 states; a table has 1 to 64",
+            ),
+            (
+                keyed(complete(17)),
+                "/table: it has 289 steps; a table has at most 256",
+            ),
+            (
+                keyed(complete(16) + "step 0 go -> 0\n"),
+                "/table: it has 257 steps; a table has at most 256",
+            ),
+            (
+                keyed(format!("{TABLE}step c -> b a\n")),
+                "/table: the step c -> a stands twice",
+            ),
+            (
+                keyed(format!("{TABLE}step c stop -> b a\nstep c stop -> b\n")),
+                "/table: the step c stop -> b stands twice",
+            ),
+            (
+                keyed(TABLE.replace("start b", "")),
+                "/table: it has no line 'start'",
+            ),
             (states(0), "/table: it has 0 states; a table has 1 to 64"),
             (states(65), "/table: it has 65 states; a table has 1 to 64"),
             (
@@ -343,6 +503,10 @@ mod tests {
         }
         assert_eq!(told(states(64)), None);
         assert_eq!(told(complete(16)), None);
+        assert_eq!(told(keyed(states(64))), None);
+        assert_eq!(told(keyed(complete(16))), None);
+        let two_keys = format!("{TABLE}step c stop -> a\nstep c go -> a\n");
+        assert_eq!(told(keyed(two_keys)), None);
     }
 
     #[test]
@@ -366,6 +530,24 @@ mod tests {
                 "names a state that the table does not have",
             ),
             (table("step a b"), "is no line of a table"),
+            (
+                table("step a go -> b"),
+                "table:10: 'step a go -> b' has a key that no line before it names",
+            ),
+            (table("key 0 go"), "has a key that is not 1 to 255"),
+            (table("key 256 go"), "has a key that is not 1 to 255"),
+            (table("key x go"), "has a word where a number should be"),
+            (table("key 1"), "is no line of a table"),
+            (
+                table("key 1 go\nkey 2 go"),
+                "table:11: 'key 2 go' names a key twice",
+            ),
+            (table("key 1 go\nkey 1 stop"), "names a key twice"),
+            (
+                table("key 1 go\nstep a go -> d"),
+                "names a state that the table does not have",
+            ),
+            (table("key 1 go\nstep a go b"), "is no line of a table"),
             (table("label x y"), "has a word where a number should be"),
             (table("label 4294967296 y"), "where a number should be"),
             (

@@ -1,7 +1,7 @@
 //! What an enquiry and a commit answer, worked out by hand. The causes are put right one
 //! after the other, in their order.
 
-use super::{marks, starts, Refused, K, P, Q};
+use super::{keys, Refused, K, P, Q};
 use crate::Answer;
 use oracle::Slip;
 
@@ -18,9 +18,11 @@ pub fn require_worked_enquiries(
     commit: impl Fn(&[u8], &[u8], &[u8], Slip, &mut [u8]) -> Answer,
 ) {
     require_made(&enquire, &commit);
+    require_made_with_keys(&enquire, &commit);
     require_slips(&commit);
     require_tables(&enquire, &commit);
     require_order(&enquire, &commit);
+    require_order_of_30(&enquire, &commit);
 }
 
 /// The six numbers of a refusal, where a to d are 0.
@@ -63,6 +65,19 @@ fn require_made(enquire: Enquire, commit: Commit) {
     ] {
         assert_eq!(committed(commit, (files, NUMBERS, length)), expected);
     }
+}
+
+/// The same with keys: the lengths of the tables are 16 + 4n + 3m.
+fn require_made_with_keys(enquire: Enquire, commit: Commit) {
+    let ([left, right], relation) = (keys::p_and_q(), rows([3, 4]));
+    let files = [&left[..], &right, &relation];
+    let (success, numbers) = ([0, 0, 51, 0, 0, 0], [30, 37, 16, 51]);
+    assert_eq!(enquire(&left, &right, &relation), (success, numbers));
+    let made = committed(commit, (files, numbers, 51));
+    assert_eq!(made, (success, K.to_vec()));
+    // Those of tables as large without keys, in version 4.
+    require_refused(commit, (files, [28, 34, 16, 51], 51), refusal(29, 2));
+    require_refused(commit, (files, numbers, 50), [21, 3, 51, 0, 0, 0]);
 }
 
 /// "29 when a number on the slip is not that of the inputs", whatever the output.
@@ -115,13 +130,9 @@ fn refused_tables() -> Vec<Refused> {
 /// The refusals of a table are those of the enquiry, and of the commit whatever the slip and
 /// the output.
 fn require_tables(enquire: Enquire, commit: Commit) {
-    let tables = [
-        refused_tables(),
-        starts::refused_tables(),
-        marks::refused_tables(),
-    ];
+    let tables = [refused_tables(), super::refused_tables()].concat();
     let relation = &rows([3, 4])[..];
-    for (name, table, [code, a]) in tables.concat() {
+    for (name, table, [code, a]) in tables {
         for (file, left, right) in [(0, &table[..], Q), (1, P, &table)] {
             let answer = [code, file, a, 0, 0, 0];
             let enquired = enquire(left, right, relation);
@@ -178,5 +189,44 @@ fn require_order(enquire: Enquire, commit: Commit) {
         require_refused(commit, (files, NUMBERS, 53), refusal(29, 2));
         require_refused(commit, (files, good, 0), short);
         require_refused(commit, (files, good, 52), short);
+    }
+}
+
+/// "30 [...], tested after both are read": after the causes of both tables, whichever has
+/// keys, and before every other.
+fn require_order_of_30(enquire: Enquire, commit: Commit) {
+    let [p, q] = keys::p_and_q_of_two_kinds();
+    let zeros = [0; 4];
+    for relation in [
+        vec![],
+        rows([3, 4])[1..].to_vec(),
+        // 15, 16, 17, 22, and nothing.
+        rows([11, 4]),
+        rows([2, 4]),
+        rows([3, 6]),
+        rows([1, 4]),
+        rows([3, 4]),
+    ] {
+        for [left, right] in [[&p, &q], [&q, &p]] {
+            let files = [&left[..], right, &relation];
+            assert_eq!(enquire(left, right, &relation), (refusal(30, 1), zeros));
+            let lengths = files.map(|file| file.len() as u64);
+            let right_slip = [lengths[0], lengths[1], lengths[2], 51];
+            for slip in [zeros, right_slip] {
+                for length in [0, 50, 51] {
+                    require_refused(commit, (files, slip, length), refusal(30, 1));
+                }
+            }
+        }
+    }
+    let short = |table: &[u8]| table[..table.len() - 1].to_vec();
+    for (left, right, answer) in [
+        (short(&p), short(&q), refusal(7, 0)),
+        (short(&q), short(&p), refusal(7, 0)),
+        (p.clone(), short(&q), refusal(7, 1)),
+        (q, short(&p), refusal(7, 1)),
+    ] {
+        assert_eq!(enquire(&left, &right, &[]), (answer, zeros));
+        require_refused(commit, ([&left, &right, &[]], zeros, 0), answer);
     }
 }

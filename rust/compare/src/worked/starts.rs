@@ -253,11 +253,8 @@ fn starts_alone() -> Vec<Case> {
         ),
     ]
     .map(|(name, left, right, given, answer)| Case {
-        name: name.to_string(),
-        left,
-        right,
         certificate: rows(given),
-        answer,
+        ..Case::with_k((name, left, right, answer))
     })
     .into()
 }
