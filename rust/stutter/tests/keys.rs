@@ -167,7 +167,7 @@ fn a_table_with_keys_is_refused_in_order() {
         // Equal steps, and keys that fall.
         (with(37, &[2, 0, 2]), 24, 3),
         (with(37, &[2, 0, 1]), 24, 3),
-        (with(37, &[1, 255, 255][..1]), 24, 3),
+        (with(37, &[1]), 24, 3),
         // Step 2 is too high, and step 1 is equal to step 0.
         (with(31, &[0, 2, 1, 3]), 8, 2),
     ] {
