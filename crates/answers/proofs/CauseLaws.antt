@@ -1,7 +1,7 @@
 -- Laws of lists of causes: joined lists, families, guards and other numbers; and that at most one answer is the first cause's. Assumes nothing.
 use Prim.Native.Nat.{ℕ, zero, suc, _<_}
 use mathlib.Core.Path.{_≡_, sym, ap, _∙_, subst}
-use mathlib.Core.Logic.{_↔_, inl, inr, ⊎-elim}
+use mathlib.Core.Logic.{_↔_, _⊎_, inl, inr, ⊎-elim}
 use mathlib.Core.Bool.{Bool}
 use mathlib.Core.List.{List, [], _∷_, _++_, flatMap}
 use lib.Dec.{T}
@@ -63,6 +63,12 @@ first-left (x ∷ xs) ys a (inr p) = inr (p .0, first-left xs ys a (p .1))
 pub first-right : (xs ys : List Cause) (a : Answer) → NoCause xs → FirstCause ys a → FirstCause (xs ++ ys) a
 first-right [] ys a n f = f
 first-right (x ∷ xs) ys a n f = inr (n .0, first-right xs ys a (n .1) f)
+
+-- the first cause of a joined list is the first part's, or none of that part applies and it is the second's
+pub append-first : (xs ys : List Cause) (a : Answer) → FirstCause (xs ++ ys) a → FirstCause xs a ⊎ (NoCause xs × FirstCause ys a)
+append-first [] ys a f = inr (tt, f)
+append-first (x ∷ xs) ys a (inl p) = inl (inl p)
+append-first (x ∷ xs) ys a (inr p) = ⊎-elim (λ f. inl (inr (p .0, f))) (λ q. inr ((p .0, q .0), q .1)) (append-first xs ys a (p .1))
 
 -- ---- numbers
 

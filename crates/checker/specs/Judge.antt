@@ -7,6 +7,8 @@ use Rattle.lists.specs.Below.{sumBelow}
 use Rattle.words.specs.Bits.{countBits}
 use Rattle.bisimulation.specs.Systems.{View, Ranks}
 use Rattle.tables.specs.Table.{statesOf}
+use Rattle.table_reader.specs.declared.Known.{Known}
+use Rattle.table_reader.specs.declared.Known.the-variants.{Both}
 use Rattle.table_reader.specs.TableReading.{readTable}
 use Rattle.table_pairs.specs.TablePairs.{tablesVerdict}
 use Rattle.table_pairs.specs.PairCauses.{OneKind}
@@ -46,10 +48,10 @@ judged v r named = startsVerdict v named andThen λ x. along (λ c. tallied (che
 unfoldable pub judgedBytes : List ℕ → List ℕ → List ℕ → Verdict Tally
 judgedBytes left right c = judged (certifiedView left right c) (certifiedRanks left right c) (startsNamed left right)
 
--- The verdict on any three byte strings.
-unfoldable pub judgeVerdict : List ℕ → List ℕ → List ℕ → Verdict Tally
-judgeVerdict left right c =
-    tablesVerdict left right andThen λ heads.
+-- The verdict on any three byte strings, by a judge that knows these kinds of table.
+unfoldable pub judgeVerdict : Known → List ℕ → List ℕ → List ℕ → Verdict Tally
+judgeVerdict known left right c =
+    tablesVerdict known left right andThen λ heads.
     certificateVerdict 2 (readCertificate (sizesOf left right) c) andThen λ sizes.
     judgedBytes left right c
 
@@ -61,5 +63,10 @@ answerAfter left right c = answerOf (acceptance (pairsIn (rowsPart c (sizesOf le
 abbrev pub readAnswer : List ℕ → List ℕ → List ℕ → Answer
 readAnswer left right c = answerAfter left right c (judgedBytes left right c)
 
-unfoldable pub judgeAnswer : List ℕ → List ℕ → List ℕ → Answer
-judgeAnswer left right c = answerAfter left right c (judgeVerdict left right c)
+-- The answer of a judge that knows these kinds of table.
+unfoldable pub judgeKnown : Known → List ℕ → List ℕ → List ℕ → Answer
+judgeKnown known left right c = answerAfter left right c (judgeVerdict known left right c)
+
+-- The judge's answer. It knows both kinds.
+abbrev pub judgeAnswer : List ℕ → List ℕ → List ℕ → Answer
+judgeAnswer = judgeKnown Both

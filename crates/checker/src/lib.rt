@@ -15,6 +15,7 @@ use sweeps::check_all;
 use table_pairs::TablesRead;
 use table_pairs::read_tables;
 use table_pairs::tables_answer;
+use table_reader::Known;
 use tables::Head;
 use tables::labels;
 use tables::steps;
@@ -26,7 +27,7 @@ ghost use Rattle.words.specs.Bits.{countBits};
 ghost use Rattle.answers.specs.Verdicts.{refusalOf};
 ghost use Rattle.certificate_reader.specs.CertificateVerdicts.{certificateVerdict};
 ghost use Rattle.sweeps.specs.SideVerdicts.{endAnswer};
-ghost use Rattle.checker.specs.Judge.{AllRead, readAnswer, judgeAnswer};
+ghost use Rattle.checker.specs.Judge.{AllRead, readAnswer, judgeKnown, judgeAnswer};
 
 // The related pairs: the ones of all words.
 fn count_pairs(words: &[u64; Head::MAX_STATES]) -> usize
@@ -102,11 +103,11 @@ fn certificate_answer(read: CertificateRead) -> Answer
     refusal.answer(2)
 }
 
-// The judge: for any three byte strings, the six numbers of its answer.
-pub fn judge(left: &[u8], right: &[u8], certificate: &[u8]) -> Answer
-    ensures { λ r. ⌜ r ≡ judgeAnswer (now (left .entry)) (now (right .entry)) (now (certificate .entry)) ⌝ }
+// A judge that knows these kinds of table: for any three byte strings, the six numbers of its answer.
+pub fn judge_known(left: &[u8], right: &[u8], certificate: &[u8], known: Known) -> Answer
+    ensures { λ r. ⌜ r ≡ judgeKnown known (now (left .entry)) (now (right .entry)) (now (certificate .entry)) ⌝ }
 {
-    let tables = read_tables(left, right);
+    let tables = read_tables(left, right, known);
     let TablesRead::Good(heads) = tables else {
         return tables_answer(tables);
     };
@@ -115,4 +116,11 @@ pub fn judge(left: &[u8], right: &[u8], certificate: &[u8]) -> Answer
         return certificate_answer(third);
     };
     judge_read(left, right, certificate, heads.left, heads.right)
+}
+
+// The judge: for any three byte strings, the six numbers of its answer. It knows both kinds of table.
+pub fn judge(left: &[u8], right: &[u8], certificate: &[u8]) -> Answer
+    ensures { λ r. ⌜ r ≡ judgeAnswer (now (left .entry)) (now (right .entry)) (now (certificate .entry)) ⌝ }
+{
+    judge_known(left, right, certificate, Known::Both)
 }

@@ -2,9 +2,9 @@
 -- demand 3 with its blocks, and its states and numbers fit the bytes that they are written in. Assumes nothing.
 use Prim.Native.Nat.{ℕ, suc, _+_, _*_, _≤_, _<_}
 use mathlib.Core.Path.{_≡_, refl, sym, ap, _∙_}
-use mathlib.Core.Logic.{_⊎_, inl, inr, ⊎-elim}
+use mathlib.Core.Logic.{inl, inr, ⊎-elim}
 use mathlib.Core.Bool.{Bool, true, false, not, cond}
-use mathlib.Core.List.{List, [], _∷_, _++_, map, flatMap}
+use mathlib.Core.List.{List, _++_, map, flatMap}
 use native.Mathlib.Nat.{mul-le-mul}
 use native.Mathlib.Omega.{arith}
 use lib.Dec.{T, eqb}
@@ -12,7 +12,7 @@ use lib.ListN.{length, drop, length-drop, length-map}
 use lib.Seq.{drop-at, drop-cons}
 use Rattle.lists.specs.Lists.{All}
 use Rattle.lists.specs.Numbers.{byteAt}
-use Rattle.lists.proofs.JoinLaws.{all-append, all-imply}
+use Rattle.lists.proofs.JoinLaws.{all-imply}
 use Rattle.lists.proofs.FlatLaws.{flat-length}
 use Rattle.bisimulation.specs.Systems.{View, Ranks, WellFormed, flip, swap}
 use Rattle.bisimulation.specs.Clauses.{Meets, EveryObligation}
@@ -22,22 +22,21 @@ use Rattle.bisimulation.proofs.ClauseLaws.{flip-formed}
 use Rattle.bisimulation.proofs.PathMatchingLaws.{Matched, given-states, matching-states, matching-most, given-numbers, matching-numbers, path-i}
 use Rattle.bisimulation.proofs.StandingLaws.{path-matched}
 use Rattle.answers.specs.Numbers.{sixNumbers}
-use Rattle.answers.specs.Causes.{Cause, FirstCause, NoCause, Numbered, Answers}
+use Rattle.answers.specs.Causes.{Cause, FirstCause, NoCause, Answers}
 use Rattle.answers.specs.Verdicts.{Verdict, goOn, answerOf}
 use Rattle.answers.specs.declared.Answer.{Answer}
-use Rattle.answers.proofs.CauseLaws.{none-append, append-none, first-holds, numbered-first, zero-none, none-zero}
+use Rattle.answers.proofs.CauseLaws.{none-append, append-none, append-first, numbered-first, zero-none, none-zero}
 use Rattle.answers.proofs.DecideLaws.{decides-stable, test-decides}
 use Rattle.answers.proofs.VerdictLaws.{decided-answer, none-on, refused-output, output-on, output-length}
-use Rattle.tables.specs.Table.{keyed}
 use Rattle.tables.specs.Model.{systemOf}
-use Rattle.table_reader.specs.TableCauses.{tableCauses}
-use Rattle.table_reader.proofs.TableCauseLaws.{formed-good, table-numbers}
+use Rattle.table_reader.specs.declared.Known.the-variants.{Plain}
+use Rattle.table_reader.proofs.TableCauseLaws.{formed-good}
 use Rattle.table_reader.proofs.TableLaws.{table-ok}
-use Rattle.table_pairs.specs.PairCauses.{kindCauses, tablesCauses, plainTablesCauses}
-use Rattle.table_pairs.proofs.PairCauseLaws.{plain-tables-none, plain-tables-numbers}
+use Rattle.table_pairs.specs.PairCauses.{tablesCauses}
+use Rattle.table_pairs.proofs.PairCauseLaws.{plain-not-30}
 use Rattle.certificates.specs.CertificateModel.{AreBytes, viewOf, certifiedView, certifiedRanks}
-use Rattle.checker.specs.JudgeCauses.{judgeCauses}
-use Rattle.checker.proofs.JudgeCauseLaws.{afterTables, after-numbers}
+use Rattle.checker.specs.JudgeCauses.{knownJudgeCauses, judgeCauses}
+use Rattle.checker.proofs.JudgeCauseLaws.{afterTables, after-numbers, known-none}
 use Rattle.path_matcher.specs.Following.{
   givenAlong,
   matchedAlong,
@@ -59,19 +58,6 @@ use Rattle.demands.proofs.JudgeAnswers.{accepted-zero}
 use Rattle.demands.proofs.JudgeExact.{formed-view, judge-exact}
 use Rattle.demands.proofs.NextLaws.{path-next}
 use Rattle.demands.proofs.OutputLaws.{Fits, entry-length, block-length, entries-back, given-back, blocks-back}
-
--- the first cause of a joined list is one of the first part, or none of that applies and it is one of the second
-append-first : (xs ys : List Cause) (a : Answer) → FirstCause (xs ++ ys) a → FirstCause xs a ⊎ (NoCause xs × FirstCause ys a)
-append-first [] ys a f = inr (tt, f)
-append-first (x ∷ xs) ys a (inl p) = inl (inl p)
-append-first (x ∷ xs) ys a (inr p) = ⊎-elim (λ f. inl (inr (p .0, f))) (λ q. inr ((p .0, q .0), q .1)) (append-first xs ys a (p .1))
-
--- a number other than 30, and a cause that has one where it applies
-abbrev isApart : (code file : ℕ) → Bool
-isApart code file = not (eqb code 30)
-
-abbrev Apart : Cause → Type 0
-Apart x = x .condition → T (isApart (x .numbers .code) (x .numbers .file))
 
 -- ---- what an acceptance says, from either side
 
@@ -190,8 +176,9 @@ module _ (left right c : List ℕ) (bytes : AreBytes c) (side start : ℕ) (path
   abbrev after : List Cause
   after = matchCauses v r side start path states blocks
 
-  seen : NoCause (judgeCauses left right c) → Accepted v r
-  seen n = from-side (certifiedView left right c) (certifiedRanks left right c) (accepted left right c bytes n) (eqb side 0)
+  seen : NoCause (knownJudgeCauses Plain left right c) → Accepted v r
+  seen n =
+      from-side (certifiedView left right c) (certifiedRanks left right c) (accepted left right c bytes (known-none Plain left right c n)) (eqb side 0)
 
   answers : Answers causes (λ a. a ≡ sixNumbers 0 0 (a .a)) answer
   unfolding followAnswer
@@ -210,43 +197,34 @@ module _ (left right c : List ℕ) (bytes : AreBytes c) (side start : ℕ) (path
       (λ file h. h) (λ a z. ap (λ (x : Answer). x .code) z)
 
   along-followable : Followable left right c side start path → Along v r path start
-  along-followable f = along v r (seen (f .1)) side start path (f .2) (f .3)
+  along-followable f = along v r (seen (f .0)) side start path (f .1) (f .2)
 
-  -- 30 is no cause of tables without keys
+  -- 30 comes neither from the tables nor after them
   not-30 : ¬ (answer .code ≡ 30)
   not-30 e = ⊎-elim (λ f. other (answer .code) e (first-other f)) (λ p. omega (arith, ap (λ (x : Answer). x .code) (p .1))) answers
     where
       other : (k : ℕ) → k ≡ 30 → T (not (eqb k 30)) → ⊥
       other k q h = absurd (rw q at h)
 
-      apart : (xs : List Cause) → Numbered isApart xs → All Apart xs
-      apart xs n = all-imply (λ x. T (isApart (x .numbers .code) (x .numbers .file))) Apart (λ x h y. h) xs n
-
-      judge-apart : (keyed left ≡ false) × (keyed right ≡ false) → All Apart (judgeCauses left right c)
-      judge-apart p =
-          all-append Apart (tablesCauses left right) (afterTables left right c)
-          (all-append Apart (tableCauses 0 left) (tableCauses 1 right ++ kindCauses left right) (apart (tableCauses 0 left) (table-numbers isApart 0 tt left))
-          (all-append Apart (tableCauses 1 right) (kindCauses left right) (apart (tableCauses 1 right) (table-numbers isApart 1 tt right))
-          (λ n. absurd (n (p .0 ∙ sym (p .1))), tt)))
-          (apart (afterTables left right c) (after-numbers left right c isApart tt tt tt))
+      isOther : (code file : ℕ) → Bool
+      isOther code file = not (eqb code 30)
 
       first-other : FirstCause causes answer → T (not (eqb (answer .code) 30))
       first-other f =
-          ⊎-elim (λ g. numbered-first isApart (plainTablesCauses left right) answer (plain-tables-numbers left right isApart tt tt) g)
+          ⊎-elim
           (λ g.
-          first-holds (λ a. T (isApart (a .code) (a .file))) (judgeCauses left right c ++ after) answer
-          (all-append Apart (judgeCauses left right c) after (judge-apart (plain-tables-none left right (g .0))) (apart after (tt, (tt, (tt, tt))))) (g .1))
-          (append-first (plainTablesCauses left right) (judgeCauses left right c ++ after) answer f)
+          ⊎-elim (plain-not-30 left right answer)
+          (λ h. numbered-first isOther (afterTables left right c) answer (after-numbers left right c isOther tt tt tt) (h .1))
+          (append-first (tablesCauses Plain left right) (afterTables left right c) answer g))
+          (λ g. numbered-first isOther after answer (tt, (tt, (tt, tt))) (g .1))
+          (append-first (knownJudgeCauses Plain left right c) after answer f)
 
   module _ (none : NoCause causes) where
-    abbrev tables-split : NoCause (plainTablesCauses left right) × NoCause (judgeCauses left right c ++ after)
-    tables-split = append-none (plainTablesCauses left right) (judgeCauses left right c ++ after) none
-
-    abbrev split : NoCause (judgeCauses left right c) × NoCause after
-    split = append-none (judgeCauses left right c) after (tables-split .1)
+    abbrev split : NoCause (knownJudgeCauses Plain left right c) × NoCause after
+    split = append-none (knownJudgeCauses Plain left right c) after none
 
     along-is : Along v r path start
-    along-is = along-followable (tables-split .0, split .0, split .1 .0, split .1 .1 .0)
+    along-is = along-followable (split .0, split .1 .0, split .1 .1 .0)
 
     room : (3 * length matched ≤ length states) × (2 * length path ≤ length blocks)
     room =
@@ -299,7 +277,7 @@ module _ (left right c : List ℕ) (bytes : AreBytes c) (side start : ℕ) (path
   always-room : Followable left right c side start path → 49_152 ≤ length states → 512 ≤ length blocks
       → ¬ NoRoom (length matched) (length path) states blocks
   always-room f l k =
-      ⊎-elim (λ x. omega (arith, along-followable f .few)) (λ x. omega (arith, short v r (seen (f .1)) side start path (f .2) (f .3) .1))
+      ⊎-elim (λ x. omega (arith, along-followable f .few)) (λ x. omega (arith, short v r (seen (f .0)) side start path (f .1) (f .2) .1))
 
   pub follow-exact : FollowExact left right c side start path states blocks answer states′ blocks′
   unfolding followAnswer followStates followBlocks
@@ -318,6 +296,5 @@ module _ (left right c : List ℕ) (bytes : AreBytes c) (side start : ℕ) (path
         room-for = λ f. along-followable f .followed;
         enough = λ f l k.
             causes-zero
-            (none-append (plainTablesCauses left right) (judgeCauses left right c ++ after) (f .0)
-            (none-append (judgeCauses left right c) after (f .1) (f .2, (f .3, (always-room f l k, tt)))));
+            (none-append (knownJudgeCauses Plain left right c) after (f .0) (f .1, (f .2, (always-room f l k, tt))));
       }

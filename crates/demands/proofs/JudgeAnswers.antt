@@ -15,6 +15,7 @@ use Rattle.answers.proofs.CauseLaws.{refused-iff, zero-none, none-zero}
 use Rattle.answers.proofs.VerdictLaws.{then-on, decided-answer}
 use Rattle.tables.specs.Table.{statesOf, stepsOf}
 use Rattle.tables.specs.Model.{systemOf}
+use Rattle.table_reader.specs.declared.Known.the-variants.{Both}
 use Rattle.table_pairs.specs.TablePairs.{tablesVerdict}
 use Rattle.certificates.specs.Layout.{sizesOf, rowsPart, rowOf}
 use Rattle.certificates.specs.CertificateModel.{viewOf, certifiedView as view, certifiedRanks as ranks}
@@ -28,7 +29,7 @@ use Rattle.obligations.specs.Judging.{checks, obligationsOf}
 use Rattle.starts.specs.StartsVerdict.{startsVerdict}
 use Rattle.obligations.proofs.CountLaws.{count-checks, obligations-most}
 use Rattle.sweeps.specs.Tallies.{none, countOf, acceptance}
-use Rattle.checker.specs.Judge.{pairsIn, judged, judgedBytes, judgeVerdict, judgeAnswer}
+use Rattle.checker.specs.Judge.{pairsIn, judged, judgedBytes, judgeVerdict, judgeKnown, judgeAnswer}
 use Rattle.checker.specs.JudgeCauses.{judgeCauses, judgeNumber}
 use Rattle.sweeps.specs.declared.Tally.{Tally}
 use Rattle.sweeps.proofs.TallyLaws.{along-counts, along-total}
@@ -50,13 +51,13 @@ module _ (left right c : List ℕ) where
   from-none Match n = omega arith
 
   -- where the judge goes on to the end, its tally has every obligation under the clause that meets it
-  counted : (y : Tally) → judgeVerdict left right c ≡ goOn y
+  counted : (y : Tally) → judgeVerdict Both left right c ≡ goOn y
       → Accepted left right c (acceptance (pairsIn (rowsPart c (sizesOf left right)) (statesOf left)) y)
   unfolding judgeVerdict judgedBytes judged
   counted y e =
       let v = view left right c in
       let r = ranks left right c in
-      let a = then-on (tablesVerdict left right) e in
+      let a = then-on (tablesVerdict Both left right) e in
       let d = then-on (certificateVerdict 2 (readCertificate (sizesOf left right) c)) (a .2) in
       let f = then-on (startsVerdict v (startsNamed left right)) (d .2) in
       let count : (clause : Clause) → Counts (CheckMetBy v r clause) (checks v) (countOf clause y) =
@@ -79,24 +80,24 @@ module _ (left right c : List ℕ) where
 
   -- the judge answers with the first cause that applies, and where none applies as an acceptance should
   pub judge-answers : JudgeAnswers left right c (judgeAnswer left right c)
-  unfolding judgeAnswer
+  unfolding judgeKnown
   judge-answers =
       decided-answer (Accepted left right c) (acceptance (pairsIn (rowsPart c (sizesOf left right)) (statesOf left)))
-      (judgeVerdict left right c) (judge-decided left right c) (λ y e n. counted y e)
+      (judgeVerdict Both left right c) (judge-decided Both left right c) (λ y e n. counted y e)
 
   -- each refusal is answered exactly where its cause is the first that applies
   pub judge-refuses : (a : Answer) → FirstCause (judgeCauses left right c) a ↔ ((judgeAnswer left right c ≡ a) × (¬ (a .code ≡ 0)))
   judge-refuses =
       refused-iff (Accepted left right c) (judgeCauses left right c) (judgeAnswer left right c) judge-answers
-      judgeNumber (judge-numbers left right c) (λ file h. h) (λ a s. s .code-0)
+      judgeNumber (judge-numbers Both left right c) (λ file h. h) (λ a s. s .code-0)
 
   -- the code is 0 exactly where no cause applies
   pub zero-accepted : judgeAnswer left right c .code ≡ 0 → NoCause (judgeCauses left right c) × Accepted left right c (judgeAnswer left right c)
   zero-accepted =
       zero-none (Accepted left right c) (judgeCauses left right c) (judgeAnswer left right c) judge-answers
-      judgeNumber (judge-numbers left right c) (λ file h. h) (λ a s. s .code-0)
+      judgeNumber (judge-numbers Both left right c) (λ file h. h) (λ a s. s .code-0)
 
   pub accepted-zero : NoCause (judgeCauses left right c) → judgeAnswer left right c .code ≡ 0
   accepted-zero =
       none-zero (Accepted left right c) (judgeCauses left right c) (judgeAnswer left right c) judge-answers
-      judgeNumber (judge-numbers left right c) (λ file h. h) (λ a s. s .code-0)
+      judgeNumber (judge-numbers Both left right c) (λ file h. h) (λ a s. s .code-0)

@@ -18,6 +18,7 @@ use Rattle.answers.specs.Causes.{NoCause}
 use Rattle.answers.proofs.CauseLaws.{none-append, append-none}
 use Rattle.table_reader.specs.TableReading.{headOf}
 use Rattle.table_reader.proofs.TableLaws.{table-formed}
+use Rattle.table_reader.specs.declared.Known.the-variants.{Both}
 use Rattle.table_pairs.specs.PairCauses.{tablesCauses}
 use Rattle.table_pairs.proofs.PairCauseLaws.{tables-none, none-tables, formed-read}
 use Rattle.table_pairs.proofs.PairLaws.{BothRead}
@@ -80,9 +81,9 @@ module _ (left right c : List ℕ) (bytes : AreBytes c) where
 
   none-certified : NoCause (judgeCauses left right c) → AllWellFormed left right c × Certified Meets (view left right c) (ranks left right c)
   none-certified n =
-      let t = append-none (tablesCauses left right) (afterTables left right c) n in
+      let t = append-none (tablesCauses Both left right) (afterTables left right c) n in
       let d = append-none (certificateCauses 2 (sizesOf left right) c) (afterCertificate left right c) (t .1) in
-      let w : AllWellFormed left right c = record { tables = tables-none left right (t .0); certificate-formed = d .0 } in
+      let w : AllWellFormed left right c = record { tables = tables-none Both left right (t .0); certificate-formed = d .0 } in
       let e = append-none (startsCauses (view left right c) (startsNamed left right)) (afterStarts left right c) (d .1) in
       let i = starts-are w .0 (e .0) in
       let m = none-iff (view left right c) (formed-view w) (ranks left right c) .0 (e .1) in
@@ -90,7 +91,7 @@ module _ (left right c : List ℕ) (bytes : AreBytes c) where
 
   certified-none : AllWellFormed left right c → Certified Meets (view left right c) (ranks left right c) → NoCause (judgeCauses left right c)
   certified-none w m =
-      none-append (tablesCauses left right) (afterTables left right c) (none-tables left right (w .tables))
+      none-append (tablesCauses Both left right) (afterTables left right c) (none-tables left right (w .tables))
       (none-append (certificateCauses 2 (sizesOf left right) c) (afterCertificate left right c) (w .certificate-formed)
       (none-append (startsCauses (view left right c) (startsNamed left right)) (afterStarts left right c) (starts-are w .1 (m .starts))
       (none-iff (view left right c) (formed-view w) (ranks left right c) .1 (m .labels, m .own-met, m .other-met))))

@@ -11,6 +11,7 @@ use Rattle.lists.proofs.JoinLaws.{flat-all}
 use Rattle.bisimulation.specs.Systems.{View, Ranks, flip, swap}
 use Rattle.answers.specs.Causes.{Cause, NoCause}
 use Rattle.answers.proofs.CauseLaws.{append-none}
+use Rattle.table_reader.specs.declared.Known.the-variants.{Both}
 use Rattle.table_pairs.specs.PairCauses.{tablesCauses}
 use Rattle.certificates.specs.Layout.{sizesOf}
 use Rattle.certificates.specs.CertificateModel.{certifiedView as view, certifiedRanks as ranks}
@@ -124,7 +125,7 @@ module _ (left right c : List ℕ) where
   none : judgeAnswer left right c .code ≡ 0 → All (None (view left right c) (ranks left right c)) (checks (view left right c))
   unfolding None
   none e =
-      let a = append-none (tablesCauses left right) (afterTables left right c) (zero-accepted left right c e .0) in
+      let a = append-none (tablesCauses Both left right) (afterTables left right c) (zero-accepted left right c e .0) in
       let d = append-none (certificateCauses 2 (sizesOf left right) c) (afterCertificate left right c) (a .1) in
       let f = append-none (startsCauses (view left right c) (startsNamed left right)) (afterStarts left right c) (d .1) in
       flat-all (λ (x : Cause). ¬ x .condition) (checkCauses (view left right c) (ranks left right c)) (checks (view left right c)) (f .1)

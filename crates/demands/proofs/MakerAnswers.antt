@@ -11,6 +11,7 @@ use Rattle.answers.specs.Causes.{FirstCause, NoCause}
 use Rattle.answers.specs.declared.Answer.{Answer}
 use Rattle.answers.proofs.CauseLaws.{append-none, refused-iff, zero-none}
 use Rattle.answers.proofs.VerdictLaws.{decided-answer, refused-output}
+use Rattle.table_reader.specs.declared.Known.the-variants.{Both}
 use Rattle.table_pairs.specs.PairCauses.{tablesCauses}
 use Rattle.table_pairs.proofs.PairCauseLaws.{tables-none}
 use Rattle.certificates.specs.Layout.{sizesOf, certificateLength}
@@ -59,8 +60,8 @@ module _ (left right relation output : List ℕ) where
         → WellFormedInputs left right relation × (certificateLength (sizesOf left right) ≤ length output)
     made-given e =
         let n = append-none (inputCauses left right relation) _ (zero-made e .0) in
-        let t = append-none (tablesCauses left right) (relationCauses 2 (sizesOf left right) relation) (n .0) in
+        let t = append-none (tablesCauses Both left right) (relationCauses 2 (sizesOf left right) relation) (n .0) in
         let room = n .1 .0 in (
-          record { tables = tables-none left right (t .0); relation-formed = t .1; relation-bytes = bytes },
+          record { tables = tables-none Both left right (t .0); relation-formed = t .1; relation-bytes = bytes },
           omega arith,
         )

@@ -2,7 +2,7 @@
 -- steps too, where every table has zeros; all the answers are of the systems, the sizes and the way in which 16 names starts. Assumes nothing.
 use Prim.Native.Nat.{ℕ, _+_, _*_, _≤_, _<_}
 use mathlib.Core.Path.{_≡_, refl, sym, ap, _∙_, subst, fun-ext}
-use mathlib.Core.Logic.{_⊎_, inl, inr, ⊎-elim}
+use mathlib.Core.Logic.{_⊎_, inl, inr}
 use mathlib.Core.Bool.{Bool, true, false, cond}
 use mathlib.Core.List.{List}
 use native.Mathlib.Decide.{decLt}
@@ -14,34 +14,31 @@ use Rattle.lists.specs.Numbers.{byteAt}
 use Rattle.lists.proofs.BoolLaws.{not-T-false}
 use Rattle.lists.proofs.FillLaws.{getD-past}
 use Rattle.lists.proofs.NumberLaws.{big-past}
-use Rattle.bisimulation.specs.Systems.{System, View}
 use Rattle.answers.specs.Verdicts.{Verdict, goOn, refusedWith, _andThen_, passed, roomVerdict, outputAfter}
-use Rattle.answers.specs.declared.Answer.{Answer}
-use Rattle.tables.specs.declared.Format.{Format}
 use Rattle.tables.specs.Table.{layoutOf, formatOf, keyed, versionOf, formatIn, layoutIn, statesOf, stepsOf, startWord, labelsPart, stepsPart}
 use Rattle.tables.specs.Table.{labelOf, fromOf, toOf, keyOf, keyIn}
 use Rattle.tables.specs.Model.{systemOf}
 use Rattle.tables.proofs.KindLaws.{plain-key, keyed-word}
-use Rattle.table_reader.specs.TableReading.{headOf, readTable}
+use Rattle.table_reader.specs.TableReading.{headOf}
 use Rattle.table_reader.specs.declared.TableRead.the-variants as table
 use Rattle.table_reader.specs.TableCauses.{WellFormedTable}
 use Rattle.table_reader.proofs.TableCauseLaws.{formed-good}
 use Rattle.table_reader.proofs.TableLaws.{table-formed, labels-length, steps-length}
 use Rattle.table_pairs.specs.declared.Heads.{Heads}
-use Rattle.table_pairs.specs.PairCauses.{WellFormedTables}
+use Rattle.table_reader.specs.declared.Known.the-variants.{Both}
 use Rattle.table_pairs.specs.TablePairs.{tablesVerdict}
 use Rattle.table_pairs.proofs.PairLaws.{read-tables}
 use Rattle.table_pairs.proofs.PairCauseLaws.{formed-read}
 use Rattle.certificates.specs.declared.Sizes.{Sizes}
 use Rattle.certificates.specs.Layout.{sizesOf}
-use Rattle.certificates.specs.CertificateModel.{AreBytes, relatedIn, viewOf}
+use Rattle.certificates.specs.CertificateModel.{AreBytes, viewOf}
 use Rattle.certificate_reader.specs.CertificateReading.{readRelation}
 use Rattle.certificate_reader.specs.CertificateVerdicts.{relationVerdict}
 use Rattle.starts.specs.StartsNamed.{startsNamed}
 use Rattle.examination.specs.Examine.{examined}
 use Rattle.inputs.specs.Inputs.{readVerdict}
 use Rattle.inputs.specs.InputCauses.{inputCode}
-use Rattle.checker.specs.Judge.{judgedBytes, judgeVerdict, judgeAnswer}
+use Rattle.checker.specs.Judge.{judgedBytes, judgeVerdict, judgeKnown, judgeAnswer}
 use Rattle.lister.specs.Listing.{printed}
 use Rattle.ranking.specs.Make.{fileFor, examinedVerdict, verdictWith, lengthFor, answerAfter, makeAnswer, makeOutput}
 use Rattle.ranking.specs.Enquire.{slipFor, slipAfter, enquiryVerdict, enquiryFor, commitAnswer, commitOutput}
@@ -169,18 +166,18 @@ module _ (left right left′ right′ : List ℕ) (a : AllSilent left left′) (
   unfolding startsNamed
   named-same = rw (plain-word left left′ a, keyed-word left′ (a .has-keys))
 
-  read-plain : tablesVerdict left right ≡ goOn (record { left = headOf left; right = headOf right })
+  read-plain : tablesVerdict Both left right ≡ goOn (record { left = headOf left; right = headOf right })
   read-plain =
       read-tables left right (formed-read left right (record { left-formed = a .formed; right-formed = b .formed; one-kind = a .plain ∙ sym (b .plain) }))
 
-  read-keyed : tablesVerdict left′ right′ ≡ goOn (record { left = headOf left′; right = headOf right′ })
+  read-keyed : tablesVerdict Both left′ right′ ≡ goOn (record { left = headOf left′; right = headOf right′ })
   read-keyed =
       read-tables left′ right′
       (formed-read left′ right′
       (record { left-formed = a .keyed-formed; right-formed = b .keyed-formed; one-kind = a .has-keys ∙ sym (b .has-keys) }))
 
   judge-same : (c : List ℕ) → judgeAnswer left right c ≡ judgeAnswer left′ right′ c
-  unfolding judgeAnswer judgeVerdict judgedBytes
+  unfolding judgeKnown judgeVerdict judgedBytes
   judge-same c = rw (read-plain, read-keyed, sizes-same, view-same, named-same, states-same left left′ a)
 
   listing-same : (c : List ℕ) → printed left right c ≡ printed left′ right′ c

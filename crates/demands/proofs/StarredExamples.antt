@@ -45,10 +45,11 @@ use Rattle.tables.specs.Table.{
   keyOf,
 }
 use Rattle.table_reader.specs.TableReading.{magicKnown, versionFits, statesFit, wrongStarts, endsOutside, sameStep, doubled, greater, notGreater}
-use Rattle.table_reader.specs.TableReading.{readLength, readSizes, readHeader, readSteps, readTable, readPlainTable}
+use Rattle.table_reader.specs.declared.Known.the-variants.{Both}
+use Rattle.table_reader.specs.TableReading.{readLength, readSizes, readHeader, readSteps, readKnown}
 use Rattle.table_reader.specs.TableReading.{headOf}
 use Rattle.table_reader.proofs.TableCauseLaws.{good-formed}
-use Rattle.table_pairs.specs.TablePairs.{sameKind, tablesVerdict, plainTablesVerdict}
+use Rattle.table_pairs.specs.TablePairs.{sameKind, tablesVerdict}
 use Rattle.tables.specs.Model.{systemOf}
 use Rattle.certificates.specs.Layout.{sizesOf, certificateLength, alAt, arAt, clAt, crAt, rowsPart, rowOf}
 use Rattle.certificate_reader.specs.CertificateReading.{certificateSizesFit, wideRow, readRows, readCertificate, readRelation}
@@ -65,7 +66,7 @@ use Rattle.examination.specs.Examine.{examined, makerVerdict, verdictBy, mayKee
 use Rattle.inputs.specs.Inputs.{readVerdict}
 use Rattle.ranking.specs.Make.{fileFor, examinedVerdict, verdictWith, makeAnswer, makeOutput}
 use Rattle.ranking.specs.Enquire.{sameSlip, slipVerdict, enquiryFor, commitAnswer, commitOutput}
-use Rattle.checker.specs.Judge.{pairsIn, judged, judgedBytes, judgeVerdict, judgeAnswer}
+use Rattle.checker.specs.Judge.{pairsIn, judged, judgedBytes, judgeVerdict, judgeKnown, judgeAnswer}
 use Rattle.demands.specs.Demand2.{BothPlain, WellFormedInputs}
 use Rattle.lister.specs.Listing.{checkLines, listing, listingOf}
 use Rattle.path_matcher.specs.Following.{
@@ -96,10 +97,10 @@ pub starred : (judgeAnswer P Q K ≡ six 0 0 3 4 1 1)
 unfolding
     anyBelow allBelow firstBelow sumBelow countBelow bigEndian hasBit addBit hasFrom countBits firstBit is2a is2b is2c ahead
     layoutOf formatOf keyed magicFits magicKnown versionOf formatIn lastVersion versionFits statesOf statesFit startWord startOf stepsOf initialOf tableLength stepsAt
-    labelsPart stepsPart labelOf fromOf toOf keyOf endsOutside sameStep doubled readLength readSizes readHeader readSteps readTable sameKind tablesVerdict
+    labelsPart stepsPart labelOf fromOf toOf keyOf endsOutside sameStep doubled readLength readSizes readHeader readSteps readKnown sameKind tablesVerdict
     systemOf sizesOf certificateLength alAt arAt clAt crAt rowsPart rowOf certificateSizesFit wideRow
     readRows readCertificate certificates.readHeader relatedIn viewOf ranksOf smallestEntered outcomeAfter2a isApart obligationAt
-    joinBelow stepsFrom pairChecks checksBy checks along startsNamed startsVerdict checkVerdict pairsIn judged judgedBytes judgeVerdict judgeAnswer
+    joinBelow stepsFrom pairChecks checksBy checks along startsNamed startsVerdict checkVerdict pairsIn judged judgedBytes judgeVerdict judgeKnown
     readRelation roomVerdict examined firstOf makerVerdict verdictBy mayKeep endlessAt firstChain endless
     matchesWithin matched distance mayChain chainAlong stutterRank matchRank mostBelow
     readVerdict examinedVerdict verdictWith makeAnswer makeOutput fileFor certificateHeader certificateFile bigBytes tabulate grid putAt putFront
@@ -119,17 +120,17 @@ pub two-starts : (judgeAnswer P (startingAt 3) K ≡ six 0 0 3 4 1 1)
 unfolding
     anyBelow allBelow firstBelow sumBelow countBelow bigEndian hasBit addBit hasFrom countBits firstBit is2a is2b is2c ahead
     layoutOf formatOf keyed magicFits magicKnown versionOf formatIn lastVersion versionFits statesOf statesFit startWord startOf startsOf stepsOf initialOf tableLength stepsAt wrongStarts
-    labelsPart stepsPart labelOf fromOf toOf keyOf endsOutside sameStep doubled greater notGreater readLength readSizes readHeader readSteps readTable sameKind tablesVerdict
+    labelsPart stepsPart labelOf fromOf toOf keyOf endsOutside sameStep doubled greater notGreater readLength readSizes readHeader readSteps readKnown sameKind tablesVerdict
     systemOf sizesOf certificateLength alAt arAt clAt crAt rowsPart rowOf certificateSizesFit wideRow
     readRows readCertificate certificates.readHeader relatedIn viewOf ranksOf smallestEntered outcomeAfter2a isApart obligationAt
     joinBelow stepsFrom pairChecks checksBy checks along startsNamed unpaired unpairedVerdict startsVerdict checkVerdict
-    pairsIn judged judgedBytes judgeVerdict judgeAnswer readRelation roomVerdict examined firstOf makerVerdict verdictBy mayKeep endlessAt firstChain endless
+    pairsIn judged judgedBytes judgeVerdict judgeKnown readRelation roomVerdict examined firstOf makerVerdict verdictBy mayKeep endlessAt firstChain endless
     matchesWithin matched distance mayChain chainAlong stutterRank matchRank mostBelow
     readVerdict examinedVerdict verdictWith makeAnswer makeOutput fileFor certificateHeader certificateFile bigBytes tabulate grid putAt putFront
 two-starts = (refl, refl, refl, refl, refl, refl, refl, refl, refl)
 
 -- P and Q with keys: where Q's pause is silent and the other steps have P's keys, the maker writes K and the judge accepts it; where Q's second step has another
--- key, or the pause has one, P's first step has no answer; one table with keys and one without get 30, after the right table is read; and no run is followed.
+-- key, or the pause has one, P's first step has no answer; one table with keys and one without get 30, after the right table is read; and no run is followed, 2 for either table.
 pub keyed-PQ : (judgeAnswer (keyedP 7 9) (keyedQ 0 7 9) K ≡ six 0 0 3 4 1 1)
     × (makeAnswer (keyedP 7 9) (keyedQ 0 7 9) rowsPQ (zeros 51) ≡ six 0 0 51 0 0 0)
     × (makeOutput (keyedP 7 9) (keyedQ 0 7 9) rowsPQ (zeros 51) ≡ K)
@@ -139,18 +140,19 @@ pub keyed-PQ : (judgeAnswer (keyedP 7 9) (keyedQ 0 7 9) K ≡ six 0 0 3 4 1 1)
     × (judgeAnswer P (keyedQ 0 7 9) K ≡ six 30 1 0 0 0 0)
     × (judgeAnswer P (take 15 (keyedQ 0 7 9)) K ≡ six 1 1 0 0 0 0)
     × (followAnswer (keyedP 7 9) (keyedQ 0 7 9) K 0 0 run (zeros 12) (zeros 6) ≡ six 2 0 0 0 0 0)
+    × (followAnswer P (keyedQ 0 7 9) K 0 0 run (zeros 12) (zeros 6) ≡ six 2 1 0 0 0 0)
 unfolding
     anyBelow allBelow firstBelow sumBelow countBelow bigEndian hasBit addBit hasFrom countBits firstBit is2a is2b is2c ahead
     layoutOf formatOf keyed magicFits magicKnown versionOf formatIn lastVersion versionFits statesOf statesFit startWord startOf startsOf stepsOf initialOf tableLength stepsAt wrongStarts
-    labelsPart stepsPart labelOf fromOf toOf keyOf endsOutside sameStep doubled greater notGreater readLength readSizes readHeader readSteps readTable readPlainTable sameKind tablesVerdict plainTablesVerdict
+    labelsPart stepsPart labelOf fromOf toOf keyOf endsOutside sameStep doubled greater notGreater readLength readSizes readHeader readSteps readKnown sameKind tablesVerdict
     systemOf sizesOf certificateLength alAt arAt clAt crAt rowsPart rowOf certificateSizesFit wideRow
     readRows readCertificate certificates.readHeader relatedIn viewOf ranksOf smallestEntered outcomeAfter2a isApart obligationAt
     joinBelow stepsFrom pairChecks checksBy checks along startsNamed unpaired unpairedVerdict startsVerdict checkVerdict
-    pairsIn judged judgedBytes judgeVerdict judgeAnswer readRelation roomVerdict examined firstOf makerVerdict verdictBy mayKeep endlessAt firstChain endless
+    pairsIn judged judgedBytes judgeVerdict judgeKnown readRelation roomVerdict examined firstOf makerVerdict verdictBy mayKeep endlessAt firstChain endless
     matchesWithin matched distance mayChain chainAlong stutterRank matchRank mostBelow
     readVerdict examinedVerdict verdictWith makeAnswer makeOutput fileFor certificateHeader certificateFile bigBytes tabulate grid putAt putFront
     matchVerdict followVerdict followAnswer
-keyed-PQ = (refl, refl, refl, refl, refl, refl, refl, refl, refl)
+keyed-PQ = (refl, refl, refl, refl, refl, refl, refl, refl, refl, refl)
 
 -- document 02's six lines for P, Q and K
 pub listed : listingOf P Q K
@@ -176,7 +178,7 @@ pub followed-PQK : (followAnswer P Q K 0 0 run (zeros 12) (zeros 6) ≡ six 0 0 
     × (followBlocks P Q K 1 0 (0 ∷ 1 ∷ 2 ∷ 0 ∷ []) (zeros 9) (zeros 8) ≡ 0 ∷ 0 ∷ 0 ∷ 0 ∷ 0 ∷ 1 ∷ 0 ∷ 2 ∷ [])
 unfolding
     anyBelow firstBelow bigEndian hasBit hasFrom is2a is2b is2c layoutOf formatOf keyed magicFits magicKnown versionOf formatIn lastVersion versionFits statesOf statesFit startWord startOf
-    stepsOf tableLength stepsAt labelsPart stepsPart labelOf fromOf toOf keyOf endsOutside sameStep doubled readLength readSizes readHeader readSteps readTable readPlainTable sameKind tablesVerdict plainTablesVerdict
+    stepsOf tableLength stepsAt labelsPart stepsPart labelOf fromOf toOf keyOf endsOutside sameStep doubled readLength readSizes readHeader readSteps readKnown sameKind tablesVerdict
     systemOf sizesOf certificateLength alAt arAt clAt rowsPart rowOf certificateSizesFit wideRow readRows readCertificate certificates.readHeader relatedIn
     viewOf ranksOf smallestEntered outcomeAfter2a obligationAt joinBelow stepsFrom pairChecks checksBy checks along startsNamed startsVerdict checkVerdict
     judged judgedBytes judgeVerdict mostBelow smallestStep moves matchSteps matchPath stepOf stepsAlong numberedFrom followed givenEntries matchingEntries
@@ -192,10 +194,10 @@ pub made-K : (length K ≡ 51)
 unfolding
     anyBelow allBelow firstBelow sumBelow countBelow bigEndian hasBit addBit hasFrom countBits firstBit is2a is2b is2c ahead
     layoutOf formatOf keyed magicFits magicKnown versionOf formatIn lastVersion versionFits statesOf statesFit startWord startOf stepsOf initialOf tableLength stepsAt
-    labelsPart stepsPart labelOf fromOf toOf keyOf endsOutside sameStep doubled readLength readSizes readHeader readSteps readTable sameKind tablesVerdict
+    labelsPart stepsPart labelOf fromOf toOf keyOf endsOutside sameStep doubled readLength readSizes readHeader readSteps readKnown sameKind tablesVerdict
     systemOf sizesOf certificateLength alAt arAt clAt crAt rowsPart rowOf certificateSizesFit wideRow
     readRows readCertificate certificates.readHeader relatedIn viewOf ranksOf smallestEntered outcomeAfter2a isApart obligationAt
-    joinBelow stepsFrom pairChecks checksBy checks along startsNamed startsVerdict checkVerdict pairsIn judged judgedBytes judgeVerdict judgeAnswer
+    joinBelow stepsFrom pairChecks checksBy checks along startsNamed startsVerdict checkVerdict pairsIn judged judgedBytes judgeVerdict judgeKnown
     readRelation roomVerdict examined firstOf makerVerdict verdictBy mayKeep endlessAt firstChain endless
     matchesWithin matched distance mayChain chainAlong stutterRank matchRank mostBelow
     readVerdict examinedVerdict verdictWith makeAnswer makeOutput fileFor certificateHeader certificateFile bigBytes tabulate grid putAt putFront
@@ -215,10 +217,10 @@ pub enquired-PQ : (enquiryFor P Q rowsPQ ≡ record { answer = six 0 0 51 0 0 0;
 unfolding
     anyBelow allBelow firstBelow sumBelow countBelow bigEndian hasBit addBit hasFrom countBits firstBit is2a is2b is2c ahead
     layoutOf formatOf keyed magicFits magicKnown versionOf formatIn lastVersion versionFits statesOf statesFit startWord startOf stepsOf initialOf tableLength stepsAt
-    labelsPart stepsPart labelOf fromOf toOf keyOf endsOutside sameStep doubled readLength readSizes readHeader readSteps readTable sameKind tablesVerdict
+    labelsPart stepsPart labelOf fromOf toOf keyOf endsOutside sameStep doubled readLength readSizes readHeader readSteps readKnown sameKind tablesVerdict
     systemOf sizesOf certificateLength alAt arAt clAt crAt rowsPart rowOf certificateSizesFit wideRow
     readRows readCertificate certificates.readHeader relatedIn viewOf ranksOf smallestEntered outcomeAfter2a isApart obligationAt
-    joinBelow stepsFrom pairChecks checksBy checks along startsNamed startsVerdict checkVerdict pairsIn judged judgedBytes judgeVerdict judgeAnswer
+    joinBelow stepsFrom pairChecks checksBy checks along startsNamed startsVerdict checkVerdict pairsIn judged judgedBytes judgeVerdict judgeKnown
     readRelation roomVerdict examined firstOf makerVerdict verdictBy mayKeep endlessAt firstChain endless
     matchesWithin matched distance mayChain chainAlong stutterRank matchRank mostBelow
     readVerdict examinedVerdict verdictWith fileFor certificateHeader certificateFile bigBytes tabulate grid putAt putFront
@@ -252,13 +254,13 @@ pub silent-P : AllSilent wideP (keyedP 0 0)
 unfolding
     anyBelow firstBelow bigEndian hasBit hasFrom layoutOf formatOf keyed magicFits magicKnown versionOf formatIn lastVersion versionFits statesOf statesFit
     startWord startsOf stepsOf initialOf tableLength stepsAt wrongStarts labelsPart stepsPart labelOf fromOf toOf keyOf endsOutside greater notGreater
-    readLength readSizes readHeader readSteps readTable systemOf
+    readLength readSizes readHeader readSteps readKnown systemOf
 silent-P =
     record {
-      formed = good-formed wideP {h = headOf wideP} refl;
+      formed = good-formed Both wideP {h = headOf wideP} refl;
       plain = refl;
       version = inr refl;
-      keyed-formed = good-formed (keyedP 0 0) {h = headOf (keyedP 0 0)} refl;
+      keyed-formed = good-formed Both (keyedP 0 0) {h = headOf (keyedP 0 0)} refl;
       has-keys = refl;
       states = refl;
       marks = below-two _ refl refl;

@@ -29,9 +29,10 @@ use Rattle.certificate_reader.specs.declared.CertificateRead.the-variants as ce
 use Rattle.certificates.proofs.ModelLaws.{rows-length, rows-byte}
 use Rattle.certificate_reader.proofs.CertificateLaws.{certificate-ok}
 use Rattle.sweeps.specs.Tallies.{none, tallied, acceptance}
-use Rattle.checker.specs.Judge.{pairsIn, judged, judgedBytes, judgeVerdict, answerAfter, judgeAnswer}
+use Rattle.checker.specs.Judge.{pairsIn, judged, judgedBytes, judgeVerdict, answerAfter, judgeKnown, judgeAnswer}
 use Rattle.sweeps.specs.declared.Tally.{Tally}
 use Rattle.table_pairs.specs.declared.Heads.{Heads}
+use Rattle.table_reader.specs.declared.Known.the-variants.{Both}
 use Rattle.table_pairs.specs.TablePairs.{tablesVerdict}
 use Rattle.certificate_reader.specs.CertificateVerdicts.{certificateVerdict}
 use Rattle.demands.specs.Demand2.{SameWhereRelated}
@@ -181,8 +182,8 @@ module _ (left right c c′ : List ℕ) (d : SameWhereRelated left right c c′)
 
   -- two certificates that differ only in ranks of unrelated pairs get the same six numbers
   pub unrelated-ranks : judgeAnswer left right c ≡ judgeAnswer left right c′
-  unfolding judgeAnswer judgeVerdict
-  unrelated-ranks = go (tablesVerdict left right) (readCertificate z c) refl
+  unfolding judgeKnown judgeVerdict
+  unrelated-ranks = go (tablesVerdict Both left right) (readCertificate z c) refl
     where
       go : (x : Verdict Heads) (k : CertificateRead) → readCertificate z c ≡ k
           → answerAfter left right c (verdictOn c x) ≡ answerAfter left right c′ (verdictOn c′ x)

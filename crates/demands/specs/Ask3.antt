@@ -17,8 +17,8 @@ use Rattle.answers.specs.declared.Answer.{Answer}
 use Rattle.outcomes.specs.declared.Clause.the-variants.{Step, Stutter, Match}
 use Rattle.outcomes.specs.declared.Outcome.the-variants.{Met}
 use Rattle.obligations.specs.Outcomes.{HasOutcome}
-use Rattle.table_pairs.specs.PairCauses.{plainTablesCauses}
-use Rattle.checker.specs.JudgeCauses.{judgeCauses}
+use Rattle.table_reader.specs.declared.Known.the-variants.{Plain}
+use Rattle.checker.specs.JudgeCauses.{knownJudgeCauses}
 use Rattle.path_matcher.specs.Following.{givenAlong, matchedAlong, followedView, followedRanks}
 use Rattle.path_matcher.specs.FollowCauses.{WrongPath, WrongStart, followCauses}
 
@@ -93,21 +93,19 @@ pub record FollowedBy (v : View) (r : Ranks) (path : List ℕ) (start : ℕ) (gi
   -- After the first of each, the states come as the clauses say.
   pub next : Next v r (byteAt path 0) (drop 1 path) start 0 (drop 1 given) (drop 1 matched)
 
--- The tables have no keys, none of the judge's causes applies, and neither do 25 and 26.
+-- None of the causes of a judge that knows "TPT" alone applies, and neither do 25 and 26.
 abbrev pub Followable : (left right c : List ℕ) → (side start : ℕ) → (path : List ℕ) → Type 0
 Followable left right c side start path =
-    NoCause (plainTablesCauses left right)
-    × NoCause (judgeCauses left right c)
+    NoCause (knownJudgeCauses Plain left right c)
     × (¬ WrongPath side (followedView left right c side .own) path)
     × (¬ WrongStart (followedView left right c side) path start)
 
 -- What the answer and the outputs afterwards are, for these inputs and outputs.
 pub record FollowExact (left right c : List ℕ) (side start : ℕ) (path states blocks : List ℕ) (answer : Answer)
     (states′ blocks′ : List ℕ) : Type 0 where
-  -- The answer is that of the first cause that applies, those of tables without keys first, then the judge's own before 25, 26 and 27; where none does, it
-  -- is 0, 0 and the states written.
+  -- The answer is that of the first cause that applies, the judge's own before 25, 26 and 27; where none does, it is 0, 0 and the states written.
   pub answers : Answers (followCauses left right c side start path states blocks) (λ a. a ≡ sixNumbers 0 0 (a .a)) answer
-  -- Only tables without keys are read, so 30 never comes.
+  -- The judge knows "TPT" alone here, so 30 never comes.
   pub not-30 : ¬ (answer .code ≡ 30)
   -- A refusal leaves both outputs untouched.
   pub untouched : ¬ (answer .code ≡ 0) → (states′ ≡ states) × (blocks′ ≡ blocks)

@@ -13,7 +13,7 @@ use Rattle.obligations.specs.CheckCauses.{labelCauses}
 use Rattle.starts.specs.StartsCauses.{startsCauses}
 use Rattle.obligations.specs.Judging.{Check, labelsOf, leftStep, rightStep, checks}
 
--- 22: an unmatched obligation with u, t unrelated.
+-- 22: an unmatched obligation, with u, t unrelated or the step's key not 0.
 abbrev pub unmatchedCauses : View → ℕ → ℕ → ℕ → ℕ → ℕ → List Cause
 unmatchedCauses v j t side left right = ((¬ Matched v j t) × (¬ Stays v j t)) gives stepAnswer 22 side left right j ∷ []
 
@@ -23,7 +23,7 @@ makerCheckCauses v (labelsOf s t) = labelCauses v s t
 makerCheckCauses v (leftStep s t j) = unmatchedCauses v j t 0 s t
 makerCheckCauses v (rightStep s t j) = unmatchedCauses (flip v) j s 1 s t
 
--- A chain from c of steps unmatched at b, through states related to b, has as many steps as the side has states.
+-- A chain from c of silent steps unmatched at b, through states related to b, has as many steps as the side has states.
 abbrev pub LongChain : View → ℕ → ℕ → Type 0
 LongChain v b c = (J : List ℕ) × StutteringChain v b c J × (length J ≡ v .own .states)
 

@@ -9,6 +9,7 @@ use Rattle.answers.specs.Causes.{FirstCause, NoCause, Numbered, allows}
 use Rattle.answers.specs.declared.Answer.{Answer}
 use Rattle.answers.proofs.CauseLaws.{numbered-append, numbered-first}
 use Rattle.answers.proofs.VerdictLaws.{Decided, Anything, decided-then, decided-go, none-on}
+use Rattle.table_reader.specs.declared.Known.the-variants.{Both}
 use Rattle.table_reader.specs.TableCauses.{tableNumber}
 use Rattle.table_reader.proofs.TableCauseLaws.{tableNumbers}
 use Rattle.table_pairs.specs.TablePairs.{tablesVerdict}
@@ -27,7 +28,7 @@ module _ (left right relation : List ℕ) where
   pub inputs-decided : Decided Anything (inputCauses left right relation) (readVerdict left right relation)
   unfolding readVerdict
   inputs-decided =
-      decided-then (tablesVerdict left right) (tables-decided left right) λ h e n.
+      decided-then (tablesVerdict Both left right) (tables-decided Both left right) λ h e n.
       decided-go (relationVerdict 2 (readRelation (sizesOf left right) relation)) _ (relation-decided 2 (sizesOf left right) relation)
 
   pub none-read : NoCause (inputCauses left right relation) → InputsRead left right relation
@@ -37,7 +38,7 @@ module _ (left right relation : List ℕ) where
   pub input-numbers : (f : ℕ → ℕ → Bool) → T (allows f 0 tableNumbers) → T (allows f 1 tableNumbers) → T (f 30 1) → T (allows f 2 (20 ∷ 15 ∷ []))
       → Numbered f (inputCauses left right relation)
   input-numbers f h k t r =
-      numbered-append f (tablesCauses left right) (relationCauses 2 (sizesOf left right) relation) (tables-numbers left right f h k t)
+      numbered-append f (tablesCauses Both left right) (relationCauses 2 (sizesOf left right) relation) (tables-numbers Both left right f h k t)
       (relation-numbers f 2 r (sizesOf left right) relation)
 
   pub input-first : (a : Answer) → FirstCause (inputCauses left right relation) a → T (inputCode (a .code))

@@ -8,13 +8,14 @@ use Rattle.answers.specs.declared.Answer.{Answer}
 use Rattle.answers.proofs.VerdictLaws.{then-on}
 use Rattle.refusals.specs.Refusals.{relationAnswer}
 use Rattle.refusals.specs.declared.RelationRefusal.{RelationRefusal}
+use Rattle.table_reader.specs.declared.Known.the-variants.{Both}
 use Rattle.table_reader.specs.TableReading.{readTable}
 use Rattle.table_reader.specs.declared.TableRead.the-variants as table
 use Rattle.table_pairs.specs.declared.Heads.{Heads}
 use Rattle.table_pairs.specs.declared.TablesRead.{TablesRead}
 use Rattle.table_pairs.specs.declared.TablesRead.the-variants.{Good, Refused}
 use Rattle.table_pairs.specs.TablePairs.{tablesVerdict, asTablesRead}
-use Rattle.table_pairs.proofs.PairLaws.{was-good, was-refused, BothRead, tables-read, read-tables}
+use Rattle.table_pairs.proofs.PairLaws.{was-refused, BothRead, tables-read, read-tables}
 use Rattle.certificates.specs.Layout.{sizesOf}
 use Rattle.certificates.specs.declared.Sizes.{Sizes}
 use Rattle.certificate_reader.specs.CertificateReading.{readRelation}
@@ -36,10 +37,10 @@ module _ (left right relation : List ℕ) where
       → (readTable left ≡ table.Good (h .left)) × (readTable right ≡ table.Good (h .right)) × InputsRead left right relation
   unfolding readVerdict
   inputs-read {h} e =
-      let p = then-on (tablesVerdict left right) e in
+      let p = then-on (tablesVerdict Both left right) e in
       let r = then-on (relationVerdict 2 (readRelation (sizesOf left right) relation)) (p .2) in
       let same : _≡_ {A = Heads} (p .0) h = cc (r .2) in
-      let read : BothRead left right h = tables-read left right (p .1 ∙ ap goOn same) in (
+      let read : BothRead left right h = tables-read Both left right (p .1 ∙ ap goOn same) in (
         read .left-good,
         read .right-good,
         record {
@@ -64,12 +65,12 @@ module _ (left right relation : List ℕ) where
 
   -- ---- as the code comes to them
 
-  pub tables-refuse : {x : TablesRead} {a : Answer} → x ≡ asTablesRead (tablesVerdict left right) → x ≡ Refused a
+  pub tables-refuse : {x : TablesRead} {a : Answer} → x ≡ asTablesRead (tablesVerdict Both left right) → x ≡ Refused a
       → x ≡ asTablesRead (readVerdict left right relation)
   unfolding readVerdict
-  tables-refuse {x} {a} e q = q ∙ sym (rw (was-refused (tablesVerdict left right) a (sym e ∙ q)))
+  tables-refuse {x} {a} e q = q ∙ sym (rw (was-refused (tablesVerdict Both left right) a (sym e ∙ q)))
 
-  module _ {h : Heads} (read : tablesVerdict left right ≡ goOn h) where
+  module _ {h : Heads} (read : tablesVerdict Both left right ≡ goOn h) where
     pub relation-refuses : {x : RelationRead} {r : RelationRefusal} → x ≡ readRelation (sizesOf left right) relation → x ≡ relations.Refused r
         → Refused (refusalOf (relationVerdict 2 x)) ≡ asTablesRead (readVerdict left right relation)
     unfolding readVerdict

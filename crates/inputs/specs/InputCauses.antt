@@ -4,13 +4,14 @@ use mathlib.Core.Bool.{Bool, _&&_, _||_}
 use mathlib.Core.List.{List, _++_}
 use lib.Dec.{eqb}
 use Rattle.answers.specs.Causes.{Cause}
+use Rattle.table_reader.specs.declared.Known.the-variants.{Both}
 use Rattle.table_reader.specs.TableCauses.{tableNumber}
 use Rattle.table_pairs.specs.PairCauses.{tablesCauses, tablesNumber}
 use Rattle.certificates.specs.Layout.{sizesOf}
 use Rattle.certificate_reader.specs.CertificateCauses.{relationCauses}
 
 abbrev pub inputCauses : (left right relation : List ℕ) → List Cause
-inputCauses left right relation = tablesCauses left right ++ relationCauses 2 (sizesOf left right) relation
+inputCauses left right relation = tablesCauses Both left right ++ relationCauses 2 (sizesOf left right) relation
 
 -- Their numbers: a table's, 30, 15 and 20.
 abbrev pub inputCode : ℕ → Bool

@@ -5,6 +5,7 @@ use mathlib.Core.Path.{_≡_}
 use mathlib.Core.List.{List}
 use Rattle.answers.specs.Verdicts.{Verdict, goOn, _andThen_}
 use Rattle.tables.specs.declared.Head.{Head}
+use Rattle.table_reader.specs.declared.Known.the-variants.{Both}
 use Rattle.table_reader.specs.TableReading.{readTable}
 use Rattle.table_reader.specs.declared.TableRead.the-variants as table
 use Rattle.table_pairs.specs.TablePairs.{tablesVerdict}
@@ -29,6 +30,6 @@ pub record InputsRead (left right relation : List ℕ) : Type 0 where
 -- The verdict on the three files: the headers of the tables, or the first refusal.
 unfoldable pub readVerdict : List ℕ → List ℕ → List ℕ → Verdict Heads
 readVerdict left right relation =
-    tablesVerdict left right andThen λ heads.
+    tablesVerdict Both left right andThen λ heads.
     relationVerdict 2 (readRelation (sizesOf left right) relation) andThen λ sizes.
     goOn heads

@@ -6,6 +6,7 @@ use certificate_reader::read_relation;
 use certificates::Sizes;
 use table_pairs::TablesRead;
 use table_pairs::read_tables;
+use table_reader::Known;
 ghost use mathlib.Core.Path.{_≡_};
 ghost use Rattle.answers.specs.Verdicts.{refusalOf};
 ghost use Rattle.certificate_reader.specs.CertificateVerdicts.{relationVerdict};
@@ -33,7 +34,7 @@ fn relation_answer(read: RelationRead) -> Answer
 pub fn read(left: &[u8], right: &[u8], relation: &[u8]) -> TablesRead
     ensures { λ r. ⌜ r ≡ asTablesRead (readVerdict (now (left .entry)) (now (right .entry)) (now (relation .entry))) ⌝ }
 {
-    let tables = read_tables(left, right);
+    let tables = read_tables(left, right, Known::Both);
     let TablesRead::Good(heads) = tables else {
         return tables;
     };

@@ -42,11 +42,11 @@ module _ (left right c : List ℕ) where
   module _ (zero : judgeAnswer left right c .code ≡ 0) (bytes : AreBytes c) {s : Sides} (certified : CertifiedSides left right c s)
       {own other : Run} (eo : own ≡ leftRun (s .sizes)) (eo′ : other ≡ rightRun (s .sizes)) where
     sides : SidesRead left right c (s .ours) (s .theirs)
-    sides = accepted-sides left right c zero certified bytes
+    sides = accepted-sides _ left right c zero certified bytes
 
     text-of : allText (s .ours) (s .theirs) c own other ≡ flatMap lineText (listing (viewIn (s .ours) (s .theirs)) (certifiedRanks left right c))
     text-of =
-        rw (eo, eo′, accepted-sizes left right c zero certified)
+        rw (eo, eo′, accepted-sizes _ left right c zero certified)
         (text-is (s .ours) (s .theirs) c (leftRun (sizesOf left right)) (rightRun (sizesOf left right)) (certifiedRanks left right c) (sides .holding))
 
     pub accepts : Accepts left right c (s .ours) (s .theirs) own other

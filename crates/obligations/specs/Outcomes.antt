@@ -12,7 +12,7 @@ use Rattle.outcomes.specs.declared.Failure.the-variants as failure
 use Rattle.outcomes.specs.declared.Outcome.{Outcome}
 use Rattle.outcomes.specs.declared.Outcome.the-variants.{Met, Failed}
 
--- u, t are unrelated, and no step from t goes to a state related to s. Only silent steps count, where steps have keys.
+-- u, t are unrelated or the step's key is not 0, and no silent step from t goes to a state related to s.
 abbrev pub Apart : View → ℕ → ℕ → Type 0
 Apart v j t =
     (¬ Stays v j t)

@@ -3,7 +3,7 @@
 use Prim.Native.Nat.{ℕ}
 use mathlib.Core.Path.{_≡_, refl, sym, ap, _∙_, subst}
 use mathlib.Core.Logic.{inl}
-use mathlib.Core.Bool.{true, false}
+use mathlib.Core.Bool.{true}
 use mathlib.Core.List.{List, flatMap}
 use lib.ListN.{drop}
 use Rattle.lists.specs.Numbers.{byteAt}
@@ -17,13 +17,8 @@ use Rattle.answers.specs.Numbers.{sixNumbers}
 use Rattle.answers.specs.Verdicts.{Verdict, goOn, refusedWith, _andThen_}
 use Rattle.answers.specs.declared.Answer.{Answer}
 use Rattle.answers.proofs.DecideLaws.{decides-true}
-use Rattle.answers.proofs.VerdictLaws.{none-on, on-none}
-use Rattle.tables.specs.Table.{keyed}
-use Rattle.table_pairs.specs.TablePairs.{plainTablesVerdict, asTablesRead, tablesRefusal}
-use Rattle.table_pairs.specs.declared.TablesRead.{TablesRead}
-use Rattle.table_pairs.specs.declared.TablesRead.the-variants.{Refused}
-use Rattle.table_pairs.proofs.PairLaws.{was-refused}
-use Rattle.table_pairs.proofs.PairCauseLaws.{plain-tables-decided, plain-tables-none}
+use Rattle.answers.proofs.VerdictLaws.{none-on}
+use Rattle.table_reader.specs.declared.Known.the-variants.{Plain}
 use Rattle.certificates.specs.Layout.{sizesOf}
 use Rattle.certificates.specs.CertificateModel.{AreBytes, ranksOf, certifiedView, certifiedRanks}
 use Rattle.certified_sides.specs.declared.Sides.{Sides}
@@ -32,7 +27,7 @@ use Rattle.sides.specs.Built.{PlainSide}
 use Rattle.sides.specs.Views.{viewIn}
 use Rattle.obligations.specs.declared.Run.{Run}
 use Rattle.obligations.specs.OnSides.{leftRun, rightRun}
-use Rattle.checker.specs.Judge.{judgeVerdict, answerAfter, judgeAnswer}
+use Rattle.checker.specs.Judge.{judgeVerdict, answerAfter, judgeKnown}
 use Rattle.sweeps.specs.declared.Tally.{Tally}
 use Rattle.checker.proofs.JudgeCauseLaws.{judge-decided, zero-none}
 use Rattle.checker.proofs.AcceptedSidesLaws.{accepted-met, accepted-sizes, accepted-sides, accepted-plain}
@@ -50,7 +45,7 @@ use Rattle.path_matcher.specs.Following.{
   followStates,
   followBlocks,
 }
-use Rattle.path_matcher.specs.OnSides.{ranksIn, PlainTables, AllMet, givenIn, matchedIn, verdictIn}
+use Rattle.path_matcher.specs.OnSides.{ranksIn, AllMet, givenIn, matchedIn, verdictIn}
 use Rattle.path_matcher.proofs.FollowCauseLaws.{path-decides}
 use Rattle.path_matcher.proofs.FollowSidesLaws.{Answered, answered-refusal}
 
@@ -100,21 +95,12 @@ module _ (left right c : List ℕ) where
       (answer ≡ followAnswer left right c side start path states blocks)
       × ((states′ ≡ followStates left right c side start path states blocks) × (blocks′ ≡ followBlocks left right c side start path states blocks))
 
-  -- ---- on tables that are not read, or have keys
-
-  pub tables-refused : (side start : ℕ) (path states blocks : List ℕ) {x : TablesRead} {a answer : Answer} → x ≡ asTablesRead (plainTablesVerdict left right)
-      → x ≡ Refused a → answer ≡ tablesRefusal x → Followed side start path states blocks answer states blocks
-  unfolding followAnswer followStates followBlocks followVerdict
-  tables-refused side start path states blocks {a = a} e q d =
-      rw (was-refused (plainTablesVerdict left right) a (sym e ∙ q)) (d ∙ ap tablesRefusal q, (refl, refl))
-
   -- ---- on bytes that the judge refuses
 
-  pub judge-refused : PlainTables left right → (side start : ℕ) (path states blocks : List ℕ) {answer : Answer} → answer ≡ judgeAnswer left right c
-      → ¬ (answer .code ≡ 0)
+  pub judge-refused : (side start : ℕ) (path states blocks : List ℕ) {answer : Answer} → answer ≡ judgeKnown Plain left right c → ¬ (answer .code ≡ 0)
       → Followed side start path states blocks answer states blocks
-  unfolding followAnswer followStates followBlocks followVerdict judgeAnswer
-  judge-refused plain side start path states blocks {answer} e n = rw (plain .1) (go (judgeVerdict left right c) e)
+  unfolding followAnswer followStates followBlocks followVerdict judgeKnown
+  judge-refused side start path states blocks {answer} e n = go (judgeVerdict Plain left right c) e
     where
       go : (x : Verdict Tally) → answer ≡ answerAfter left right c x
           → Answered (x andThen λ t. matchVerdict (followedView left right c side) (followedRanks left right c side) side start path states blocks)
@@ -139,19 +125,15 @@ met-on c {run = run} v r′ a b e w D D′ =
       met′ = subst (λ (x : View). EveryObligation Meets (flip x) r′) (sym e) D′;
     }
 
-module _ (left right c : List ℕ) (plain : PlainTables left right) (zero : judgeAnswer left right c .code ≡ 0) where
-  -- the tables have no keys
-  no-keys : (keyed left ≡ false) × (keyed right ≡ false)
-  no-keys = plain-tables-none left right (on-none (plain .1) (plain-tables-decided left right) .1)
-
+module _ (left right c : List ℕ) (zero : judgeKnown Plain left right c .code ≡ 0) where
   -- the judge goes on
   after-judge : (side start : ℕ) (path states blocks : List ℕ)
       → followVerdict left right c side start path states blocks
       ≡ matchVerdict (followedView left right c side) (followedRanks left right c side) side start path states blocks
   unfolding followVerdict
   after-judge side start path states blocks =
-      let x = none-on (judgeVerdict left right c) (judge-decided left right c) (zero-none left right c zero) in
-      rw (plain .1, x .1)
+      let x = none-on (judgeVerdict Plain left right c) (judge-decided Plain left right c) (zero-none Plain left right c zero) in
+      rw (x .1)
 
   followed-as : (side start : ℕ) (path states blocks : List ℕ) {answer : Answer} {states′ blocks′ : List ℕ}
       → Answered (matchVerdict (followedView left right c side) (followedRanks left right c side) side start path states blocks)
@@ -174,22 +156,22 @@ module _ (left right c : List ℕ) (plain : PlainTables left right) (zero : judg
 
   module _ (bytes : AreBytes c) {s : Sides} (certified : CertifiedSides left right c s) where
     left-view : viewIn (s .ours) (s .theirs) ≡ certifiedView left right c
-    left-view = accepted-sides left right c zero certified bytes .here
+    left-view = accepted-sides Plain left right c zero certified bytes .here
 
     right-view : viewIn (s .theirs) (s .ours) ≡ flip (certifiedView left right c)
-    right-view = accepted-sides left right c zero certified bytes .holding .turned ∙ ap flip left-view
+    right-view = accepted-sides Plain left right c zero certified bytes .holding .turned ∙ ap flip left-view
 
     -- a path of the left table
     module _ {run : Run} (e : run ≡ leftRun (s .sizes)) where
       left-run : run ≡ leftRun (sizesOf left right)
-      left-run = e ∙ ap leftRun (accepted-sizes left right c zero certified)
+      left-run = e ∙ ap leftRun (accepted-sizes Plain left right c zero certified)
 
       pub left-met : AllMet (s .ours) (s .theirs) c run
       unfolding ranksOf
       left-met =
-          let h = accepted-sides left right c zero certified bytes .holding in
-          let m = accepted-met left right c zero bytes in
-          let p = accepted-plain left right c zero certified (no-keys .0) (no-keys .1) in
+          let h = accepted-sides Plain left right c zero certified bytes .holding in
+          let m = accepted-met Plain left right c zero bytes in
+          let p = accepted-plain left right c zero certified in
           let w = subst WellFormed left-view (h .formed) in
           rw left-run (met-on c (certifiedView left right c) (swap (certifiedRanks left right c)) (p .0) (p .1) left-view w (m .0) (m .1))
 
@@ -205,14 +187,14 @@ module _ (left right c : List ℕ) (plain : PlainTables left right) (zero : judg
     -- and of the right one
     module _ {run : Run} (e : run ≡ rightRun (s .sizes)) where
       right-run : run ≡ rightRun (sizesOf left right)
-      right-run = e ∙ ap rightRun (accepted-sizes left right c zero certified)
+      right-run = e ∙ ap rightRun (accepted-sizes Plain left right c zero certified)
 
       pub right-met : AllMet (s .theirs) (s .ours) c run
       unfolding ranksOf
       right-met =
-          let h = accepted-sides left right c zero certified bytes .holding in
-          let m = accepted-met left right c zero bytes in
-          let p = accepted-plain left right c zero certified (no-keys .0) (no-keys .1) in
+          let h = accepted-sides Plain left right c zero certified bytes .holding in
+          let m = accepted-met Plain left right c zero bytes in
+          let p = accepted-plain left right c zero certified in
           let w = flip-formed _ (subst WellFormed left-view (h .formed)) in
           rw right-run (met-on c (flip (certifiedView left right c)) (certifiedRanks left right c) (p .1) (p .0) right-view w (m .1) (m .0))
 

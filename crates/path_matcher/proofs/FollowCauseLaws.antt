@@ -16,11 +16,9 @@ use Rattle.answers.proofs.CauseLaws.{numbered-append}
 use Rattle.answers.proofs.DecideLaws.{Decides, decides-as, test-decides, ltb-decides, leb-decides, eqb-decides}
 use Rattle.answers.proofs.DecideLaws.{not-decides, and-decides, or-decides, any-decides}
 use Rattle.answers.proofs.VerdictLaws.{Decided, decided-none, decided-pass, decided-then}
-use Rattle.table_pairs.specs.TablePairs.{plainTablesVerdict}
-use Rattle.table_pairs.specs.PairCauses.{plainTablesCauses}
-use Rattle.table_pairs.proofs.PairCauseLaws.{plain-tables-decided, plain-tables-numbers}
+use Rattle.table_reader.specs.declared.Known.the-variants.{Plain}
 use Rattle.checker.specs.Judge.{judgeVerdict}
-use Rattle.checker.specs.JudgeCauses.{judgeCauses, judgeNumber}
+use Rattle.checker.specs.JudgeCauses.{knownJudgeCauses, judgeNumber}
 use Rattle.checker.proofs.JudgeCauseLaws.{judge-decided, judge-numbers}
 use Rattle.path_matcher.specs.Following.{
   matchedAlong,
@@ -80,14 +78,13 @@ module _ (left right c : List ℕ) (side start : ℕ) (path states blocks : List
       (followCauses left right c side start path states blocks) (followVerdict left right c side start path states blocks)
   unfolding followVerdict
   follow-decided =
-      decided-then (plainTablesVerdict left right) (plain-tables-decided left right) λ h f m.
-      decided-then (judgeVerdict left right c) (judge-decided left right c) λ x g n.
+      decided-then (judgeVerdict Plain left right c) (judge-decided Plain left right c) λ x g n.
       match-decided (followedView left right c side) (followedRanks left right c side) side start path states blocks
 
   -- the judge's numbers; 25 and 26 with the file 4, and 27 with the file 3
   pub follow-numbers : Numbered followNumber (followCauses left right c side start path states blocks)
   follow-numbers =
-      numbered-append followNumber (plainTablesCauses left right) _ (plain-tables-numbers left right followNumber tt tt)
-      (numbered-append followNumber (judgeCauses left right c) _
-      (all-imply _ _ (λ x. or-l (judgeNumber (x .numbers .code) (x .numbers .file)) _) (judgeCauses left right c) (judge-numbers left right c))
-      (tt, (tt, (tt, tt))))
+      numbered-append followNumber (knownJudgeCauses Plain left right c) _
+      (all-imply _ _ (λ x. or-l (judgeNumber (x .numbers .code) (x .numbers .file)) _) (knownJudgeCauses Plain left right c)
+      (judge-numbers Plain left right c))
+      (tt, (tt, (tt, tt)))

@@ -1,5 +1,5 @@
--- The causes for which a run is not followed, in document 02's order: those of tables without keys, so that one with keys gets 2, and the judge's own, then
--- 25, 26 and 27.
+-- The causes for which a run is not followed, in document 02's order: those of a judge that knows "TPT" alone, so that a table with keys gets 2, then 25, 26
+-- and 27.
 use Prim.Native.Nat.{ℕ, _+_, _*_, _≤_, _<_}
 use mathlib.Core.Path.{_≡_}
 use mathlib.Core.Logic.{_⊎_}
@@ -11,8 +11,8 @@ use Rattle.lists.specs.Numbers.{byteAt}
 use Rattle.bisimulation.specs.Systems.{System, Step, View, Ranks}
 use Rattle.answers.specs.Numbers.{sixNumbers}
 use Rattle.answers.specs.Causes.{Cause, _gives_}
-use Rattle.table_pairs.specs.PairCauses.{plainTablesCauses}
-use Rattle.checker.specs.JudgeCauses.{judgeCauses, judgeNumber}
+use Rattle.table_reader.specs.declared.Known.the-variants.{Plain}
+use Rattle.checker.specs.JudgeCauses.{knownJudgeCauses, judgeNumber}
 use Rattle.path_matcher.specs.Following.{matchedAlong, followedView, followedRanks}
 
 -- 25: the side is not 0 or 1; or the path is empty; or it is over 256 states; or it holds a state out of range; or two neighbours that are no step.
@@ -42,9 +42,8 @@ matchCauses v r side start path states blocks =
 
 abbrev pub followCauses : (left right c : List ℕ) → (side start : ℕ) → (path states blocks : List ℕ) → List Cause
 followCauses left right c side start path states blocks =
-    plainTablesCauses left right
-    ++ (judgeCauses left right c
-    ++ matchCauses (followedView left right c side) (followedRanks left right c side) side start path states blocks)
+    knownJudgeCauses Plain left right c
+    ++ matchCauses (followedView left right c side) (followedRanks left right c side) side start path states blocks
 
 -- Their numbers and files: the judge's, 25 and 26 with the file 4, and 27 with the file 3.
 abbrev pub followNumber : (code file : ℕ) → Bool

@@ -1,6 +1,6 @@
--- A run followed on the other model (document 02, Ask 3), for any bytes and any numbers: 2 for a table with keys, which its reader does not know (Ask 9); the judge's
--- own refusal; 25, 26 and 27, in this order; or the matching path, over the front of the one output, and the given states' block numbers, over the front of the other. What is followed, and how it is cut
--- into blocks, is the path matcher's (bisimulation/specs/PathMatching.antt).
+-- A run followed on the other model (document 02, Ask 3), for any bytes and any numbers: the refusal of a judge that knows "TPT" alone, so that a table with
+-- keys gets 2 (Ask 9); 25, 26 and 27, in this order; or the matching path, over the front of the one output, and the given states' block numbers, over the
+-- front of the other. What is followed, and how it is cut into blocks, is the path matcher's (bisimulation/specs/PathMatching.antt).
 use Prim.Native.Nat.{ℕ, _+_, _*_, _-_}
 use mathlib.Core.Bool.{Bool, cond, not, _&&_, _||_}
 use mathlib.Core.List.{List, _∷_, flatMap}
@@ -14,7 +14,7 @@ use Rattle.answers.specs.Numbers.{sixNumbers}
 use Rattle.answers.specs.Verdicts.{Verdict, goOn, _andThen_, passIf, answerOf, outputAfter}
 use Rattle.answers.specs.declared.Answer.{Answer}
 use Rattle.certificates.specs.CertificateModel.{certifiedView, certifiedRanks}
-use Rattle.table_pairs.specs.TablePairs.{plainTablesVerdict}
+use Rattle.table_reader.specs.declared.Known.the-variants.{Plain}
 use Rattle.checker.specs.Judge.{judgeVerdict}
 
 -- ---- what is followed
@@ -92,8 +92,7 @@ module _ (left right c : List ℕ) (side start : ℕ) (path states blocks : List
   -- The verdict on whatever is given.
   unfoldable pub followVerdict : Verdict ℕ
   followVerdict =
-      plainTablesVerdict left right andThen λ heads.
-      judgeVerdict left right c andThen λ x.
+      judgeVerdict Plain left right c andThen λ x.
       matchVerdict (followedView left right c side) (followedRanks left right c side) side start path states blocks
 
   -- Success is 0, 0 and the states written.

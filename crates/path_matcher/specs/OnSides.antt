@@ -12,9 +12,7 @@ use Rattle.bisimulation.specs.PathMatching.{Entry}
 use Rattle.bisimulation.specs.PathProperty.{IsPath}
 use Rattle.bisimulation.specs.Systems.{View, Ranks, WellFormed, flip}
 use Rattle.bisimulation.specs.Triples.{stepOf}
-use Rattle.answers.specs.Verdicts.{Verdict, goOn}
-use Rattle.table_pairs.specs.TablePairs.{plainTablesVerdict}
-use Rattle.table_pairs.specs.declared.Heads.{Heads}
+use Rattle.answers.specs.Verdicts.{Verdict}
 use Rattle.tables.specs.Table.{maxSteps}
 use Rattle.sides.specs.Side.{systemIn, stepsIn}
 use Rattle.sides.specs.Views.{viewIn}
@@ -27,10 +25,6 @@ use Rattle.obligations.specs.declared.Run.{Run}
 use Rattle.path_matcher.specs.declared.Move.{Move}
 use Rattle.path_matcher.specs.declared.Move.the-variants.{Enter, Stay, Push, End}
 use Rattle.path_matcher.specs.Following.{givenAlong, matchedAlong, matchVerdict}
-
--- Both tables are read, and have no keys.
-abbrev pub PlainTables : (left right : List ℕ) → Type 0
-PlainTables left right = (heads : Heads) × (plainTablesVerdict left right ≡ goOn heads)
 
 -- The first of the steps that enters u, and 256 where none does.
 unfoldable pub firstTo : (side : List ℕ) → ℕ → List ℕ → ℕ

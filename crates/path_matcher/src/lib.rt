@@ -1,8 +1,8 @@
-// A run followed on the other model, of tables without keys. It goes by the judge's clauses in order, 2a, then 2b, then 2c, the smallest state each time; a new block begins at each
-// 2a. What it finds is kept until both outputs are known to have room, so that a refusal leaves them as they were.
+// A run followed on the other model, of tables without keys. It goes by the judge's clauses in order, 2a, then 2b, then 2c, the smallest state each time; a
+// new block begins at each 2a. What it finds is kept until both outputs are known to have room, so that a refusal leaves them as they were.
 use answers::Answer;
 use certified_sides::sides_of;
-use checker::judge;
+use checker::judge_known;
 use lists::byte;
 use lists::part_of;
 use lists::put_front;
@@ -17,9 +17,7 @@ use sides::related;
 use sides::silent;
 use sides::states;
 use sides::to;
-use table_pairs::TablesRead;
-use table_pairs::read_plain_tables;
-use table_pairs::tables_answer;
+use table_reader::Known;
 use tables::Head;
 ghost use mathlib.Core.Path.{_≡_};
 ghost use mathlib.Core.List.{_++_, flatMap};
@@ -32,9 +30,10 @@ ghost use Rattle.words.specs.Bits.{firstBit};
 ghost use Rattle.sides.specs.Side.{systemIn, silentFrom};
 ghost use Rattle.sides.specs.Built.{PlainSide};
 ghost use Rattle.sides.specs.Views.{viewIn};
-ghost use Rattle.checker.specs.Judge.{judgeAnswer};
+ghost use Rattle.table_reader.specs.declared.Known.the-variants.{Plain};
+ghost use Rattle.checker.specs.Judge.{judgeKnown};
 ghost use Rattle.path_matcher.specs.Following.{entryBytes, blockBytes, wrongPath, followAnswer, followStates, followBlocks};
-ghost use Rattle.path_matcher.specs.OnSides.{stepBetween, ranksIn, givenIn, matchedIn, verdictIn, PlainTables};
+ghost use Rattle.path_matcher.specs.OnSides.{stepBetween, ranksIn, givenIn, matchedIn, verdictIn};
 ghost use Rattle.path_matcher.specs.OnSides.{AllMet, StartsAt, StandsAt, nextMove};
 
 // The most states that are given, and the most that are written: as many as a table has in each block.
@@ -316,7 +315,7 @@ fn follow_sides(
     }
 }
 
-// Follows a path of two tables and a certificate that the judge accepts.
+// Follows a path of two tables without keys and a certificate that the judge accepts.
 fn follow_accepted(
     left: &[u8],
     right: &[u8],
@@ -327,8 +326,7 @@ fn follow_accepted(
     states: &mut [u8],
     blocks: &mut [u8],
 ) -> Answer
-    requires { ⌜ PlainTables (now left) (now right) ⌝ }
-    requires { ⌜ judgeAnswer (now left) (now right) (now certificate) .code ≡ 0 ⌝ }
+    requires { ⌜ judgeKnown Plain (now left) (now right) (now certificate) .code ≡ 0 ⌝ }
     ensures value { λ r. ⌜ r ≡ followAnswer (now (left .entry)) (now (right .entry)) (now (certificate .entry)) side start (now (path .entry))
         (now (states .entry)) (now (blocks .entry)) ⌝ }
     ensures states { λ _. ⌜ now (states .exit) ≡ followStates (now (left .entry)) (now (right .entry)) (now (certificate .entry)) side start
@@ -387,11 +385,7 @@ pub fn follow(
     ensures blocks { λ _. ⌜ now (blocks .exit) ≡ followBlocks (now (left .entry)) (now (right .entry)) (now (certificate .entry)) side start
         (now (path .entry)) (now (states .entry)) (now (blocks .entry)) ⌝ }
 {
-    let tables = read_plain_tables(left, right);
-    let TablesRead::Good(_) = tables else {
-        return tables_answer(tables);
-    };
-    let answer = judge(left, right, certificate);
+    let answer = judge_known(left, right, certificate, Known::Plain);
     if answer.code != 0 {
         return answer;
     }

@@ -1,49 +1,65 @@
--- The verdict on two tables is decided by their causes, for both readers. Assumes nothing.
+-- The verdict on two tables is decided by their causes, whatever the kinds that are known. Assumes nothing.
 use Prim.Native.Nat.{ℕ}
-use mathlib.Core.Path.{_≡_}
-use mathlib.Core.Bool.{Bool, false}
-use mathlib.Core.List.{List, [], _∷_, _++_}
-use lib.Dec.{T}
-use Rattle.answers.specs.Causes.{Cause, NoCause, Numbered, allows}
+use mathlib.Core.Path.{_≡_, sym, _∙_}
+use mathlib.Core.Logic.{⊎-elim}
+use mathlib.Core.Bool.{Bool, false, not}
+use mathlib.Core.List.{List, _++_}
+use lib.Dec.{T, eqb}
+use Rattle.answers.specs.Causes.{Cause, FirstCause, NoCause, Numbered, allows}
 use Rattle.answers.specs.Numbers.{sixNumbers}
+use Rattle.answers.specs.declared.Answer.{Answer}
 use Rattle.answers.specs.Verdicts.{Verdict, _andThen_, passIf}
-use Rattle.answers.proofs.CauseLaws.{append-none, none-append, none-at, numbered-append}
+use Rattle.answers.proofs.CauseLaws.{append-none, none-append, none-at, append-first, numbered-append, numbered-first}
 use Rattle.answers.proofs.DecideLaws.{decides-stable}
-use Rattle.answers.proofs.VerdictLaws.{Decided, Anything, decided-then, decided-go, decided-fits}
+use Rattle.answers.proofs.VerdictLaws.{Decided, Anything, decided-then, decided-go, decided-fits, none-on}
 use Rattle.tables.specs.Table.{keyed}
-use Rattle.table_reader.specs.TableReading.{headOf, readTable, readPlainTable}
+use Rattle.table_reader.specs.declared.Known.{Known}
+use Rattle.table_reader.specs.declared.Known.the-variants.{Both, Plain}
+use Rattle.table_reader.specs.TableReading.{headOf, readKnown}
 use Rattle.table_reader.specs.TableVerdicts.{tableVerdict}
-use Rattle.table_reader.specs.TableCauses.{tableCauses, plainTableCauses, WellFormedTable}
+use Rattle.table_reader.specs.TableCauses.{knownCauses}
 use Rattle.table_reader.proofs.TableCauseLaws.{table-decided, good-formed, formed-good, good-none, none-good, tableNumbers, table-numbers}
-use Rattle.table_reader.proofs.PlainLaws.{plain-decided, plain-none, plain-numbers}
-use Rattle.table_pairs.specs.declared.Heads.{Heads}
-use Rattle.table_pairs.specs.TablePairs.{sameKind, tablesVerdict, plainTablesVerdict}
-use Rattle.table_pairs.specs.PairCauses.{OneKind, kindCauses, tablesCauses, plainTablesCauses, WellFormedTables}
-use Rattle.table_pairs.proofs.PairLaws.{kind-decides, BothRead}
+use Rattle.table_reader.proofs.PlainLaws.{plain-good}
+use Rattle.table_pairs.specs.TablePairs.{sameKind, tablesVerdict}
+use Rattle.table_pairs.specs.PairCauses.{kindCauses, tablesCauses, WellFormedTables}
+use Rattle.table_pairs.proofs.PairLaws.{kind-decides, BothRead, plain-read}
 
-module _ (left right : List ℕ) where
-  pub tables-decided : Decided Anything (tablesCauses left right) (tablesVerdict left right)
+module _ (known : Known) (left right : List ℕ) where
+  pub tables-decided : Decided Anything (tablesCauses known left right) (tablesVerdict known left right)
   unfolding tablesVerdict
   tables-decided =
-      decided-then (tableVerdict 0 (readTable left)) (table-decided 0 left) λ h e n.
-      decided-then (tableVerdict 1 (readTable right)) (table-decided 1 right) λ k f m.
+      decided-then (tableVerdict 0 (readKnown known left)) (table-decided known 0 left) λ h e n.
+      decided-then (tableVerdict 1 (readKnown known right)) (table-decided known 1 right) λ k f m.
       decided-go (passIf (sameKind left right) (sixNumbers 30 1 0)) _ (decided-fits (sameKind left right) (kind-decides left right))
 
-  -- where none applies, both are well formed and of one kind, and the other way round
-  pub tables-none : NoCause (tablesCauses left right) → WellFormedTables left right
+  -- where none applies, both are well formed and of one kind
+  pub tables-none : NoCause (tablesCauses known left right) → WellFormedTables left right
   tables-none n =
-      let a = append-none (tableCauses 0 left) (tableCauses 1 right ++ kindCauses left right) n in
-      let b = append-none (tableCauses 1 right) (kindCauses left right) (a .1) in
+      let a = append-none (knownCauses known 0 left) (knownCauses known 1 right ++ kindCauses left right) n in
+      let b = append-none (knownCauses known 1 right) (kindCauses left right) (a .1) in
       record {
-        left-formed = a .0;
-        right-formed = good-formed right (none-good 1 right (b .0));
+        left-formed = good-formed known left (none-good known 0 left (a .0));
+        right-formed = good-formed known right (none-good known 1 right (b .0));
         one-kind = decides-stable (kind-decides left right) (none-at (kindCauses left right) (b .1) 0);
       }
 
-  pub none-tables : WellFormedTables left right → NoCause (tablesCauses left right)
+  -- the tables' causes, then those of what follows
+  pub after-tables : {B : Type 0} {Fine : B → Type 0} {later : List Cause} {rest : Verdict B} → (WellFormedTables left right → Decided Fine later rest)
+      → Decided Fine (tablesCauses known left right ++ later) (tablesVerdict known left right andThen λ h. rest)
+  after-tables d = decided-then (tablesVerdict known left right) tables-decided (λ h e n. d (tables-none n))
+
+  pub tables-numbers : (f : ℕ → ℕ → Bool) → T (allows f 0 tableNumbers) → T (allows f 1 tableNumbers) → T (f 30 1)
+      → Numbered f (tablesCauses known left right)
+  tables-numbers f h k t =
+      numbered-append f (knownCauses known 0 left) (knownCauses known 1 right ++ kindCauses left right) (table-numbers f known 0 h left)
+      (numbered-append f (knownCauses known 1 right) (kindCauses left right) (table-numbers f known 1 k right) (t, tt))
+
+module _ (left right : List ℕ) where
+  -- where both kinds are known, the other way round
+  pub none-tables : WellFormedTables left right → NoCause (tablesCauses Both left right)
   none-tables w =
-      none-append (tableCauses 0 left) (tableCauses 1 right ++ kindCauses left right) (w .left-formed)
-      (none-append (tableCauses 1 right) (kindCauses left right) (good-none 1 right (formed-good right (w .right-formed)) .1)
+      none-append (knownCauses Both 0 left) (knownCauses Both 1 right ++ kindCauses left right) (w .left-formed)
+      (none-append (knownCauses Both 1 right) (kindCauses left right) (good-none Both 1 right (formed-good right (w .right-formed)) .1)
       (λ n. n (w .one-kind), tt))
 
   -- and so both are read
@@ -51,31 +67,25 @@ module _ (left right : List ℕ) where
   formed-read w =
       record { left-good = formed-good left (w .left-formed); right-good = formed-good right (w .right-formed); one-kind = w .one-kind }
 
-  -- the tables' causes, then those of what follows
-  pub after-tables : {B : Type 0} {Fine : B → Type 0} {later : List Cause} {rest : Verdict B} → (WellFormedTables left right → Decided Fine later rest)
-      → Decided Fine (tablesCauses left right ++ later) (tablesVerdict left right andThen λ h. rest)
-  after-tables d = decided-then (tablesVerdict left right) tables-decided (λ h e n. d (tables-none n))
+  -- where "TPT" alone is known and none applies, neither has keys
+  pub plain-none : NoCause (tablesCauses Plain left right) → (keyed left ≡ false) × (keyed right ≡ false)
+  plain-none n = plain-read left right (none-on (tablesVerdict Plain left right) (tables-decided Plain left right) n .1)
 
-  pub tables-numbers : (f : ℕ → ℕ → Bool) → T (allows f 0 tableNumbers) → T (allows f 1 tableNumbers) → T (f 30 1)
-      → Numbered f (tablesCauses left right)
-  tables-numbers f h k t =
-      numbered-append f (tableCauses 0 left) (tableCauses 1 right ++ kindCauses left right) (table-numbers f 0 h left)
-      (numbered-append f (tableCauses 1 right) (kindCauses left right) (table-numbers f 1 k right) (t, tt))
+  -- so 30 never comes there
+  pub plain-not-30 : (a : Answer) → FirstCause (tablesCauses Plain left right) a → T (not (eqb (a .code) 30))
+  plain-not-30 a f =
+      ⊎-elim (of-table 0 tt left)
+      (λ g.
+      ⊎-elim (of-table 1 tt right)
+      (λ k.
+      let p = plain-good left (none-good Plain 0 left (g .0)) in
+      let q = plain-good right (none-good Plain 1 right (k .0)) in
+      ⊎-elim (λ h. absurd (h .0 (p ∙ sym q))) (λ h. absurd (h .1)) (k .1))
+      (append-first (knownCauses Plain 1 right) (kindCauses left right) a (g .1)))
+      (append-first (knownCauses Plain 0 left) (knownCauses Plain 1 right ++ kindCauses left right) a f)
+    where
+      isOther : (code file : ℕ) → Bool
+      isOther code file = not (eqb code 30)
 
-  -- ---- where only tables without keys are read
-
-  pub plain-tables-decided : Decided Anything (plainTablesCauses left right) (plainTablesVerdict left right)
-  unfolding plainTablesVerdict
-  plain-tables-decided =
-      decided-then (tableVerdict 0 (readPlainTable left)) (plain-decided 0 left) λ h e n.
-      decided-go (tableVerdict 1 (readPlainTable right)) _ (plain-decided 1 right)
-
-  pub plain-tables-none : NoCause (plainTablesCauses left right) → (keyed left ≡ false) × (keyed right ≡ false)
-  plain-tables-none n =
-      let a = append-none (plainTableCauses 0 left) (plainTableCauses 1 right) n in
-      (plain-none 0 left (a .0) .0, plain-none 1 right (a .1) .0)
-
-  pub plain-tables-numbers : (f : ℕ → ℕ → Bool) → T (allows f 0 tableNumbers) → T (allows f 1 tableNumbers)
-      → Numbered f (plainTablesCauses left right)
-  plain-tables-numbers f h k =
-      numbered-append f (plainTableCauses 0 left) (plainTableCauses 1 right) (plain-numbers 0 left f h) (plain-numbers 1 right f k)
+      of-table : (file : ℕ) → T (allows isOther file tableNumbers) → (s : List ℕ) → FirstCause (knownCauses Plain file s) a → T (not (eqb (a .code) 30))
+      of-table file h s = numbered-first isOther (knownCauses Plain file s) a (table-numbers isOther Plain file h s)

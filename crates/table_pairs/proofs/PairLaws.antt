@@ -8,7 +8,7 @@ use native.Mathlib.Omega.{arith}
 use lib.Dec.{T}
 use Rattle.lists.proofs.BoolLaws.{T-true}
 use Rattle.answers.specs.Numbers.{sixNumbers}
-use Rattle.answers.specs.Verdicts.{Verdict, goOn, refusedWith, refusalOf, passIf, passed}
+use Rattle.answers.specs.Verdicts.{Verdict, goOn, refusedWith, refusalOf, passIf}
 use Rattle.answers.specs.declared.Answer.{Answer}
 use Rattle.answers.proofs.DecideLaws.{Decides}
 use Rattle.answers.proofs.VerdictLaws.{then-on}
@@ -16,14 +16,17 @@ use Rattle.refusals.specs.Refusals.{tableAnswer}
 use Rattle.refusals.specs.declared.TableRefusal.{TableRefusal}
 use Rattle.tables.specs.declared.Head.{Head}
 use Rattle.tables.specs.Table.{keyed}
-use Rattle.table_reader.specs.TableReading.{readTable, readPlainTable}
+use Rattle.table_reader.specs.declared.Known.{Known}
+use Rattle.table_reader.specs.declared.Known.the-variants.{Both, Plain}
+use Rattle.table_reader.specs.TableReading.{readKnown, readTable}
 use Rattle.table_reader.specs.TableVerdicts.{tableVerdict}
+use Rattle.table_reader.proofs.PlainLaws.{plain-good, known-good}
 use Rattle.table_reader.specs.declared.TableRead.{TableRead}
 use Rattle.table_reader.specs.declared.TableRead.the-variants as table
 use Rattle.table_pairs.specs.declared.Heads.{Heads}
 use Rattle.table_pairs.specs.declared.TablesRead.{TablesRead}
 use Rattle.table_pairs.specs.declared.TablesRead.the-variants.{Good, Refused}
-use Rattle.table_pairs.specs.TablePairs.{sameKind, tablesVerdict, plainTablesVerdict, asTablesRead}
+use Rattle.table_pairs.specs.TablePairs.{sameKind, tablesVerdict, asTablesRead}
 use Rattle.table_pairs.specs.PairCauses.{OneKind}
 
 -- ---- the kind
@@ -76,58 +79,52 @@ passed-test false a {x} e = absurd (not-on e)
     not-on : _≡_ {A = Verdict (Unit {0})} (refusedWith a) (goOn x) → ⊥
     not-on q = let z : _≡_ {A = ℕ} 1 0 = cc q in omega arith
 
-module _ (left right : List ℕ) where
+module _ (known : Known) (left right : List ℕ) where
   -- where the reading goes on, both were read, and the headers are theirs
-  pub tables-read : {h : Heads} → tablesVerdict left right ≡ goOn h → BothRead left right h
+  tables-good : {h : Heads} → tablesVerdict known left right ≡ goOn h
+      → (readKnown known left ≡ table.Good (h .left)) × (readKnown known right ≡ table.Good (h .right)) × OneKind left right
   unfolding tablesVerdict
-  tables-read {h} e =
-      let p = then-on (tableVerdict 0 (readTable left)) e in
-      let q = then-on (tableVerdict 1 (readTable right)) (p .2) in
+  tables-good {h} e =
+      let p = then-on (tableVerdict 0 (readKnown known left)) e in
+      let q = then-on (tableVerdict 1 (readKnown known right)) (p .2) in
       let r = then-on (passIf (sameKind left right) (sixNumbers 30 1 0)) (q .2) in
-      let same : _≡_ {A = Heads} (record { left = p .0; right = q .0 }) h = cc (r .2) in
-      record {
-        left-good = table-good 0 (readTable left) (p .1) ∙ ap (λ (x : Heads). table.Good (x .left)) same;
-        right-good = table-good 1 (readTable right) (q .1) ∙ ap (λ (x : Heads). table.Good (x .right)) same;
-        one-kind = kind-decides left right .sound (passed-test (sameKind left right) (sixNumbers 30 1 0) (r .1));
-      }
+      let same : _≡_ {A = Heads} (record { left = p .0; right = q .0 }) h = cc (r .2) in (
+        table-good 0 (readKnown known left) (p .1) ∙ ap (λ (x : Heads). table.Good (x .left)) same,
+        table-good 1 (readKnown known right) (q .1) ∙ ap (λ (x : Heads). table.Good (x .right)) same,
+        kind-decides left right .sound (passed-test (sameKind left right) (sixNumbers 30 1 0) (r .1)),
+      )
 
-  -- and back
-  pub read-tables : {h : Heads} → BothRead left right h → tablesVerdict left right ≡ goOn h
-  unfolding tablesVerdict
-  read-tables b = rw (b .left-good, b .right-good, T-true (sameKind left right) (kind-decides left right .complete (b .one-kind)))
+  pub tables-read : {h : Heads} → tablesVerdict known left right ≡ goOn h → BothRead left right h
+  tables-read e =
+      let g = tables-good e in
+      record { left-good = known-good known left (g .0); right-good = known-good known right (g .1); one-kind = g .2 }
 
   -- ---- as the code comes to them
 
-  pub left-refuses : {x : TableRead} {r : TableRefusal} → x ≡ readTable left → x ≡ table.Refused r
-      → Refused (refusalOf (tableVerdict 0 x)) ≡ asTablesRead (tablesVerdict left right)
+  pub left-refuses : {x : TableRead} {r : TableRefusal} → x ≡ readKnown known left → x ≡ table.Refused r
+      → Refused (refusalOf (tableVerdict 0 x)) ≡ asTablesRead (tablesVerdict known left right)
   unfolding tablesVerdict
   left-refuses e q = rw (← e, q)
 
-  pub left-refuses-plain : {x : TableRead} {r : TableRefusal} → x ≡ readPlainTable left → x ≡ table.Refused r
-      → Refused (refusalOf (tableVerdict 0 x)) ≡ asTablesRead (plainTablesVerdict left right)
-  unfolding plainTablesVerdict
-  left-refuses-plain e q = rw (← e, q)
-
-  module _ {h : Head} (gl : readTable left ≡ table.Good h) where
-    pub right-refuses : {x : TableRead} {r : TableRefusal} → x ≡ readTable right → x ≡ table.Refused r
-        → Refused (refusalOf (tableVerdict 1 x)) ≡ asTablesRead (tablesVerdict left right)
+  module _ {h : Head} (gl : readKnown known left ≡ table.Good h) where
+    pub right-refuses : {x : TableRead} {r : TableRefusal} → x ≡ readKnown known right → x ≡ table.Refused r
+        → Refused (refusalOf (tableVerdict 1 x)) ≡ asTablesRead (tablesVerdict known left right)
     unfolding tablesVerdict
     right-refuses e q = rw (gl, ← e, q)
 
-    module _ {k : Head} (gr : readTable right ≡ table.Good k) where
+    module _ {k : Head} (gr : readKnown known right ≡ table.Good k) where
       pub by-kind : (b : Bool) → b ≡ sameKind left right
-          → asTablesRead (tablesVerdict left right) ≡ cond b (Good (record { left = h; right = k })) (Refused (sixNumbers 30 1 0))
+          → asTablesRead (tablesVerdict known left right) ≡ cond b (Good (record { left = h; right = k })) (Refused (sixNumbers 30 1 0))
       unfolding tablesVerdict
       by-kind true e = rw (gl, gr, ← e)
       by-kind false e = rw (gl, gr, ← e)
 
-  module _ {h : Head} (gl : readPlainTable left ≡ table.Good h) where
-    pub right-refuses-plain : {x : TableRead} {r : TableRefusal} → x ≡ readPlainTable right → x ≡ table.Refused r
-        → Refused (refusalOf (tableVerdict 1 x)) ≡ asTablesRead (plainTablesVerdict left right)
-    unfolding plainTablesVerdict
-    right-refuses-plain e q = rw (gl, ← e, q)
+module _ (left right : List ℕ) where
+  -- two tables that are read, the other way round
+  pub read-tables : {h : Heads} → BothRead left right h → tablesVerdict Both left right ≡ goOn h
+  unfolding tablesVerdict
+  read-tables b = rw (b .left-good, b .right-good, T-true (sameKind left right) (kind-decides left right .complete (b .one-kind)))
 
-    pub both-read-plain : {k : Head} → readPlainTable right ≡ table.Good k
-        → Good (record { left = h; right = k }) ≡ asTablesRead (plainTablesVerdict left right)
-    unfolding plainTablesVerdict
-    both-read-plain gr = rw (gl, gr)
+  -- where "TPT" alone is known neither has keys
+  pub plain-read : {h : Heads} → tablesVerdict Plain left right ≡ goOn h → (keyed left ≡ false) × (keyed right ≡ false)
+  plain-read e = let g = tables-good Plain left right e in (plain-good left (g .0), plain-good right (g .1))

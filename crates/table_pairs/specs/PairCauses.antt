@@ -8,7 +8,8 @@ use lib.Dec.{leb, eqb}
 use Rattle.answers.specs.Numbers.{sixNumbers}
 use Rattle.answers.specs.Causes.{Cause, _gives_}
 use Rattle.tables.specs.Table.{keyed}
-use Rattle.table_reader.specs.TableCauses.{tableCauses, plainTableCauses, tableNumber, WellFormedTable}
+use Rattle.table_reader.specs.declared.Known.{Known}
+use Rattle.table_reader.specs.TableCauses.{knownCauses, tableNumber, WellFormedTable}
 
 -- The two tables are of one kind: both TPT, or both TPK.
 abbrev pub OneKind : (left right : List ℕ) → Type 0
@@ -18,12 +19,9 @@ OneKind left right = keyed left ≡ keyed right
 abbrev pub kindCauses : (left right : List ℕ) → List Cause
 kindCauses left right = (¬ OneKind left right) gives sixNumbers 30 1 0 ∷ []
 
-abbrev pub tablesCauses : (left right : List ℕ) → List Cause
-tablesCauses left right = tableCauses 0 left ++ (tableCauses 1 right ++ kindCauses left right)
-
--- Where only tables without keys are read.
-abbrev pub plainTablesCauses : (left right : List ℕ) → List Cause
-plainTablesCauses left right = plainTableCauses 0 left ++ plainTableCauses 1 right
+-- The causes of two tables of the kinds that are known. Where that is "TPT" alone, 30 never comes.
+abbrev pub tablesCauses : Known → (left right : List ℕ) → List Cause
+tablesCauses known left right = knownCauses known 0 left ++ (knownCauses known 1 right ++ kindCauses left right)
 
 -- Their numbers and files: a table's with the file 0 or 1, and 30 with the file 1.
 abbrev pub tablesNumber : (code file : ℕ) → Bool

@@ -6,7 +6,8 @@ use Rattle.answers.specs.Numbers.{sixNumbers, blank}
 use Rattle.answers.specs.Verdicts.{Verdict, goOn, refusedWith, _andThen_, passIf}
 use Rattle.answers.specs.declared.Answer.{Answer}
 use Rattle.tables.specs.Table.{keyed}
-use Rattle.table_reader.specs.TableReading.{readTable, readPlainTable}
+use Rattle.table_reader.specs.declared.Known.{Known}
+use Rattle.table_reader.specs.TableReading.{readKnown}
 use Rattle.table_reader.specs.TableVerdicts.{tableVerdict}
 use Rattle.table_pairs.specs.declared.Heads.{Heads}
 use Rattle.table_pairs.specs.declared.TablesRead.{TablesRead}
@@ -16,19 +17,12 @@ use Rattle.table_pairs.specs.declared.TablesRead.the-variants.{Good, Ref
 unfoldable pub sameKind : (left right : List ℕ) → Bool
 sameKind left right = cond (keyed left) (keyed right) (not (keyed right))
 
--- The headers of the two tables, or the first refusal.
-unfoldable pub tablesVerdict : (left right : List ℕ) → Verdict Heads
-tablesVerdict left right =
-    tableVerdict 0 (readTable left) andThen λ head.
-    tableVerdict 1 (readTable right) andThen λ head′.
+-- The headers of the two tables, of the kinds that are known, or the first refusal.
+unfoldable pub tablesVerdict : Known → (left right : List ℕ) → Verdict Heads
+tablesVerdict known left right =
+    tableVerdict 0 (readKnown known left) andThen λ head.
+    tableVerdict 1 (readKnown known right) andThen λ head′.
     passIf (sameKind left right) (sixNumbers 30 1 0) andThen λ x.
-    goOn (record { left = head; right = head′ })
-
--- The same where only tables without keys are read.
-unfoldable pub plainTablesVerdict : (left right : List ℕ) → Verdict Heads
-plainTablesVerdict left right =
-    tableVerdict 0 (readPlainTable left) andThen λ head.
-    tableVerdict 1 (readPlainTable right) andThen λ head′.
     goOn (record { left = head; right = head′ })
 
 -- The code's enum for it.

@@ -1,13 +1,13 @@
 // Two tables, read together: the headers of both, or the answer that refuses one of them, or the two for being of different kinds.
 use answers::Answer;
+use table_reader::Known;
 use table_reader::TableRead;
-use table_reader::read_plain_table;
 use table_reader::read_table;
 use table_reader::table_answer;
 use tables::Head;
 use tables::is_keyed;
 ghost use mathlib.Core.Path.{_≡_};
-ghost use Rattle.table_pairs.specs.TablePairs.{sameKind, tablesVerdict, plainTablesVerdict, asTablesRead, tablesRefusal};
+ghost use Rattle.table_pairs.specs.TablePairs.{sameKind, tablesVerdict, asTablesRead, tablesRefusal};
 
 // The headers of the two tables.
 pub struct Heads {
@@ -31,15 +31,15 @@ fn same_kind(left: &[u8], right: &[u8]) -> bool
     !is_keyed(right)
 }
 
-// Reads the left table and the right table, which are of one kind.
-pub fn read_tables(left: &[u8], right: &[u8]) -> TablesRead
-    ensures { λ r. ⌜ r ≡ asTablesRead (tablesVerdict (now (left .entry)) (now (right .entry))) ⌝ }
+// Reads the left table and the right table, which are of one kind, and of those that are known.
+pub fn read_tables(left: &[u8], right: &[u8], known: Known) -> TablesRead
+    ensures { λ r. ⌜ r ≡ asTablesRead (tablesVerdict known (now (left .entry)) (now (right .entry))) ⌝ }
 {
-    let first = read_table(left);
+    let first = read_table(left, known);
     let TableRead::Good(head) = first else {
         return TablesRead::Refused(table_answer(first, 0));
     };
-    let second = read_table(right);
+    let second = read_table(right, known);
     let TableRead::Good(head2) = second else {
         return TablesRead::Refused(table_answer(second, 1));
     };
@@ -56,24 +56,6 @@ pub fn read_tables(left: &[u8], right: &[u8]) -> TablesRead
         b: 0,
         c: 0,
         d: 0,
-    })
-}
-
-// Reads the left table and the right table, which have no keys.
-pub fn read_plain_tables(left: &[u8], right: &[u8]) -> TablesRead
-    ensures { λ r. ⌜ r ≡ asTablesRead (plainTablesVerdict (now (left .entry)) (now (right .entry))) ⌝ }
-{
-    let first = read_plain_table(left);
-    let TableRead::Good(head) = first else {
-        return TablesRead::Refused(table_answer(first, 0));
-    };
-    let second = read_plain_table(right);
-    let TableRead::Good(head2) = second else {
-        return TablesRead::Refused(table_answer(second, 1));
-    };
-    TablesRead::Good(Heads {
-        left: head,
-        right: head2,
     })
 }
 

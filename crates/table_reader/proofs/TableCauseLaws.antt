@@ -2,6 +2,7 @@
 -- The reader is a chain of tests in the order of the causes, and each test decides its cause. Assumes nothing.
 use Prim.Native.Nat.{ℕ}
 use mathlib.Core.Path.{_≡_, refl, ap, _∙_, subst}
+use mathlib.Core.Logic.{inl}
 use mathlib.Core.Bool.{Bool, not, _||_}
 use mathlib.Core.List.{List, [], _∷_, _++_}
 use native.Mathlib.Omega.{arith}
@@ -41,9 +42,11 @@ use Rattle.refusals.specs.declared.TableRefusal.the-variants.{
   Doubled,
   NotGreater,
 }
+use Rattle.table_reader.specs.declared.Known.{Known}
+use Rattle.table_reader.specs.declared.Known.the-variants.{Both, Plain}
 use Rattle.table_reader.specs.declared.TableRead.{TableRead}
 use Rattle.table_reader.specs.declared.TableRead.the-variants.{Good, Refused}
-use Rattle.table_reader.specs.TableReading.{headOf, readLength, readSizes, readHeader, readSteps, withSteps, readTable}
+use Rattle.table_reader.specs.TableReading.{headOf, readLength, readSizes, readHeader, readSteps, withSteps, readKnown, readTable}
 use Rattle.table_reader.specs.TableVerdicts.{tableVerdict}
 use Rattle.table_reader.specs.TableCauses.{
   StartWord,
@@ -53,11 +56,10 @@ use Rattle.table_reader.specs.TableCauses.{
   doubledCauses,
   notGreaterCauses,
   orderCauses,
-  tableCauses,
+  knownCauses,
   WellFormedTable,
 }
 use Rattle.table_reader.proofs.TestLaws.{
-  magic-decides,
   known-decides,
   version-decides,
   states-decides,
@@ -72,16 +74,16 @@ on-good : (file : ℕ) (x : TableRead) {h : Head} → tableVerdict file x ≡ go
 on-good file (Good k) e = ap Good (cc e)
 on-good file (Refused r) e = absurd (let z : _≡_ {A = ℕ} 0 1 = cc e in omega arith)
 
-module _ (file : ℕ) (s : List ℕ) where
+module _ (known : Known) (file : ℕ) (s : List ℕ) where
   abbrev on : TableRead → Verdict Head
   on = tableVerdict file
 
   -- the header's tests decide its causes
-  header-decided : Decided (λ h. h ≡ headOf s) (headerCauses file s) (on (readHeader s))
+  header-decided : Decided (λ h. h ≡ headOf s) (headerCauses known file s) (on (readHeader known s))
   unfolding readHeader readSizes readLength
   header-decided =
       decided-test on (Refused Short) _ (ltb-decides (length s) 9) refl
-      (decided-test on (Refused Magic) _ (not-decides (known-decides s)) refl
+      (decided-test on (Refused Magic) _ (not-decides (known-decides known s)) refl
       (decided-test on (Refused Version) _ (not-decides (version-decides s)) refl
       (decided-test on (Refused Short) _ (ltb-decides (length s) (layoutIn s .header)) refl
       (decided-test on (Refused States) _ (not-decides (states-decides (statesOf s))) refl
@@ -107,47 +109,43 @@ module _ (file : ℕ) (s : List ℕ) where
   header-then-steps (Refused r) = refl
 
   -- the reader goes on with the header where no cause applies, and refuses with the numbers of the first that does
-  pub table-decided : Decided (λ h. h ≡ headOf s) (tableCauses file s) (on (readTable s))
-  unfolding readTable
+  pub table-decided : Decided (λ h. h ≡ headOf s) (knownCauses known file s) (on (readKnown known s))
+  unfolding readKnown
   table-decided =
-      subst (Decided (λ h. h ≡ headOf s) (tableCauses file s)) (header-then-steps (readHeader s))
-      (decided-then (on (readHeader s)) header-decided (λ h e n. rw e steps-decided))
+      subst (Decided (λ h. h ≡ headOf s) (knownCauses known file s)) (header-then-steps (readHeader known s))
+      (decided-then (on (readHeader known s)) header-decided (λ h e n. rw e steps-decided))
 
   -- a good header is what the bytes say, and no cause of the header applies
-  pub header-none : {h : Head} → readHeader s ≡ Good h → (h ≡ headOf s) × NoCause (headerCauses file s)
+  pub header-none : {h : Head} → readHeader known s ≡ Good h → (h ≡ headOf s) × NoCause (headerCauses known file s)
   header-none e = on-none (ap on e) header-decided
 
   -- what is read is the header, and no cause applies
-  pub good-none : {h : Head} → readTable s ≡ Good h → (h ≡ headOf s) × NoCause (tableCauses file s)
+  pub good-none : {h : Head} → readKnown known s ≡ Good h → (h ≡ headOf s) × NoCause (knownCauses known file s)
   good-none e = on-none (ap on e) table-decided
 
-  pub none-good : NoCause (tableCauses file s) → readTable s ≡ Good (headOf s)
-  none-good n = let q = none-on (on (readTable s)) table-decided n in on-good file (readTable s) (q .1 ∙ ap goOn (q .2))
+  pub none-good : NoCause (knownCauses known file s) → readKnown known s ≡ Good (headOf s)
+  none-good n = let q = none-on (on (readKnown known s)) table-decided n in on-good file (readKnown known s) (q .1 ∙ ap goOn (q .2))
 
--- a table that is read is well formed, and the other way round, whichever file it is
-pub good-formed : (s : List ℕ) {h : Head} → readTable s ≡ Good h → WellFormedTable s
-good-formed s e = good-none 0 s e .1
+-- a table that is read is well formed, whatever the kinds that are known and whichever file it is
+pub good-formed : (known : Known) (s : List ℕ) {h : Head} → readKnown known s ≡ Good h → WellFormedTable s
+good-formed Both s e = good-none Both 0 s e .1
+good-formed Plain s e = let n = good-none Plain 0 s e .1 in (n .0, (λ unknown. n .1 .0 (λ m. unknown (inl m)), n .1 .1))
 
+-- and the other way round where both kinds are known
 pub formed-good : (s : List ℕ) → WellFormedTable s → readTable s ≡ Good (headOf s)
-formed-good = none-good 0
-
--- the table's causes, then those of what follows
-pub after-table : (file : ℕ) (s : List ℕ) {B : Type 0} {Fine : B → Type 0} {later : List Cause} {rest : Verdict B}
-    → (WellFormedTable s → Decided Fine later rest)
-    → Decided Fine (tableCauses file s ++ later) (tableVerdict file (readTable s) andThen λ h. rest)
-after-table file s d = decided-then (tableVerdict file (readTable s)) (table-decided file s) (λ h e n. d (good-formed s (none-good file s n)))
+formed-good = none-good Both 0
 
 -- ---- the numbers are 1 to 9, 24 and 28, with the file given
 
 abbrev pub tableNumbers : List ℕ
 tableNumbers = 1 ∷ 2 ∷ 3 ∷ 4 ∷ 5 ∷ 6 ∷ 7 ∷ 8 ∷ 9 ∷ 24 ∷ 28 ∷ []
 
-pub table-numbers : (f : ℕ → ℕ → Bool) (file : ℕ) → T (allows f file tableNumbers) → (s : List ℕ) → Numbered f (tableCauses file s)
-table-numbers f file h s = go (allowed f file tableNumbers h)
+pub table-numbers : (f : ℕ → ℕ → Bool) (known : Known) (file : ℕ) → T (allows f file tableNumbers) → (s : List ℕ) → Numbered f (knownCauses known file s)
+table-numbers f known file h s = go (allowed f file tableNumbers h)
   where
-    go : All (λ code. T (f code file)) tableNumbers → Numbered f (tableCauses file s)
+    go : All (λ code. T (f code file)) tableNumbers → Numbered f (knownCauses known file s)
     go (h1, (h2, (h3, (h4, (h5, (h6, (h7, (h8, (h9, (h24, (h28, none))))))))))) =
-        numbered-append f (headerCauses file s) (endCauses file s ++ orderCauses file s) (h1, (h2, (h3, (h1, (h4, (h5, (h28, (h6, (h7, tt)))))))))
+        numbered-append f (headerCauses known file s) (endCauses file s ++ orderCauses file s) (h1, (h2, (h3, (h1, (h4, (h5, (h28, (h6, (h7, tt)))))))))
         (numbered-append f (endCauses file s) (orderCauses file s) (numbered-below f (stepsOf s) _ (λ j. (h8, tt)))
         (numbered-append f (only (StepsRise s) (notGreaterCauses file s)) (only (¬ StepsRise s) (doubledCauses file s))
         (numbered-only f (StepsRise s) (notGreaterCauses file s) (numbered-below f (stepsOf s) _ (λ j. (h24, tt))))
@@ -155,7 +153,7 @@ table-numbers f file h s = go (allowed f file tableNumbers h)
 
 -- ---- by the version: 9 only where the steps may stand in any order, 24 only where they rise, 5 only of one start, 28 only of a start word
 
-module _ (file : ℕ) (s : List ℕ) where
+module _ (known : Known) (file : ℕ) (s : List ℕ) where
   abbrev Told : Answer → Type 0
   Told a = (a .code ≡ 9 → ¬ StepsRise s) × (a .code ≡ 24 → StepsRise s) × (a .code ≡ 5 → ¬ StartWord s) × (a .code ≡ 28 → StartWord s)
 
@@ -167,11 +165,11 @@ module _ (file : ℕ) (s : List ℕ) where
       → (code ≡ 9 → ¬ StepsRise s) × (code ≡ 24 → StepsRise s) × (code ≡ 5 → ¬ StartWord s) × (code ≡ 28 → StartWord s)
   other code h p = (λ e. absurd (rw e at h), λ e. absurd (rw e at h), λ e. absurd (rw e at h), λ e. absurd (rw e at h))
 
-  pub version-told : (a : Answer) → FirstCause (tableCauses file s) a
+  pub version-told : (a : Answer) → FirstCause (knownCauses known file s) a
       → (a .code ≡ 9 → ¬ StepsRise s) × (a .code ≡ 24 → StepsRise s) × (a .code ≡ 5 → ¬ StartWord s) × (a .code ≡ 28 → StartWord s)
   version-told a =
-      first-holds Told (tableCauses file s) a
-      (all-append Tells (headerCauses file s) (endCauses file s ++ orderCauses file s)
+      first-holds Told (knownCauses known file s) a
+      (all-append Tells (headerCauses known file s) (endCauses file s ++ orderCauses file s)
       (other 1 tt, (other 2 tt, (other 3 tt, (other 1 tt, (other 4 tt, (one-start, (start-word, (other 6 tt, (other 7 tt, tt)))))))))
       (all-append Tells (endCauses file s) (orderCauses file s)
       (all-join Tells (stepsOf s) _ (λ j l. (other 8 tt, tt)))

@@ -21,6 +21,8 @@ use Rattle.bisimulation.specs.Systems.{NoTwice}
 use Rattle.tables.specs.declared.Head.{Head}
 use Rattle.table_reader.specs.declared.TableRead.the-variants.{Good}
 use Rattle.tables.specs.Table.{keyed, formatIn, layoutIn, statesOf, startOf, startsOf, startWord, initialOf, stepsOf, stepsAt, tableLength, labelsPart, stepsPart}
+use Rattle.table_reader.specs.declared.Known.{Known}
+use Rattle.table_reader.specs.declared.Known.the-variants.{Both}
 use Rattle.table_reader.specs.TableReading.{headOf, readTable}
 use Rattle.table_reader.specs.TableCauses.{StartWord, WrongStarts, EndOutside, EqualsEarlier, headerCauses, endCauses, orderCauses}
 use Rattle.answers.specs.Numbers.{sixNumbers}
@@ -48,9 +50,9 @@ pub record HeadOk (s : List ℕ) (h : Head) : Type 0 where
   pub long : length s ≡ tableLength s
 
 -- so it is where no cause of the header applies
-pub head-ok : (s : List ℕ) {h : Head} → h ≡ headOf s → NoCause (headerCauses 0 s) → HeadOk s h
-head-ok s {h} e n =
-    let none = none-at (headerCauses 0 s) n in
+pub head-ok : (known : Known) (s : List ℕ) {h : Head} → h ≡ headOf s → NoCause (headerCauses known 0 s) → HeadOk s h
+head-ok known s {h} e n =
+    let none = none-at (headerCauses known 0 s) n in
     let limits = decides-stable (states-decides (statesOf s)) (none 4) in
     let start : (¬ StartWord s) × (statesOf s ≤ startOf s) → ⊥ = none 5 in
     let steps : 256 < stepsOf s → ⊥ = none 7 in
@@ -69,7 +71,7 @@ head-ok s {h} e n =
 
 -- and so where a table is read
 pub table-ok : (s : List ℕ) {h : Head} → readTable s ≡ Good h → HeadOk s h
-table-ok s e = let g = good-none 0 s e in head-ok s (g .0) (append-none (headerCauses 0 s) (endCauses 0 s ++ orderCauses 0 s) (g .1) .0)
+table-ok s e = let g = good-none Both 0 s e in head-ok Both s (g .0) (append-none (headerCauses Both 0 s) (endCauses 0 s ++ orderCauses 0 s) (g .1) .0)
 
 -- ---- the two parts
 
@@ -86,7 +88,7 @@ module _ (s : List ℕ) {h : Head} (good : readTable s ≡ Good h) where
 
 -- no cause of the steps applies
 pub steps-none : (s : List ℕ) {h : Head} → readTable s ≡ Good h → NoCause (endCauses 0 s) × NoCause (orderCauses 0 s)
-steps-none s e = append-none (endCauses 0 s) (orderCauses 0 s) (append-none (headerCauses 0 s) (endCauses 0 s ++ orderCauses 0 s) (good-none 0 s e .1) .1)
+steps-none s e = append-none (endCauses 0 s) (orderCauses 0 s) (append-none (headerCauses Both 0 s) (endCauses 0 s ++ orderCauses 0 s) (good-none Both 0 s e .1) .1)
 
 -- a start word has 64 bits
 starts-small : (s : List ℕ) → startsOf s < 2 ^ 64

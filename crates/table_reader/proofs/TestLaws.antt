@@ -9,10 +9,12 @@ use Rattle.words.specs.Bits.{hasBit, hasFrom, HasFrom}
 use Rattle.lists.proofs.BelowLaws.{first-least}
 use Rattle.tables.specs.declared.Format.{Format}
 use Rattle.tables.specs.Table.{lastVersion, magicFits, versionOf, formatIn, stepsPart, fromOf, toOf, keyOf}
+use Rattle.table_reader.specs.declared.Known.{Known}
+use Rattle.table_reader.specs.declared.Known.the-variants.{Both, Plain}
 use Rattle.table_reader.specs.TableReading.{magicKnown, versionFits, statesFit, wrongStarts}
 use Rattle.table_reader.specs.TableReading.{endsOutside, sameStep, doubled, greater, notGreater}
 use Rattle.table_reader.specs.EndsSeen.{EndsBelow}
-use Rattle.table_reader.specs.TableCauses.{MagicFits, StatesFit, WrongStarts, NotGreater}
+use Rattle.table_reader.specs.TableCauses.{MagicFits, MagicKnown, StatesFit, WrongStarts, NotGreater}
 use Rattle.answers.proofs.DecideLaws.{
   Decides,
   decides-as,
@@ -32,9 +34,10 @@ magic-decides third s =
     decides-as (and-decides (and-decides (eqb-decides _ _) (eqb-decides _ _)) (eqb-decides _ _))
     (λ p. (p .0 .0, p .0 .1, p .1)) (λ p. ((p .0, p .1), p .2))
 
-pub known-decides : (s : List ℕ) → Decides (magicKnown s) (MagicFits 0x54 s ⊎ MagicFits 0x4B s)
+pub known-decides : (known : Known) (s : List ℕ) → Decides (magicKnown known s) (MagicKnown known s)
 unfolding magicKnown
-known-decides s = or-decides (magic-decides 0x54 s) (magic-decides 0x4B s)
+known-decides Both s = or-decides (magic-decides 0x54 s) (magic-decides 0x4B s)
+known-decides Plain s = magic-decides 0x54 s
 
 pub version-decides : (s : List ℕ) → Decides (versionFits s) ((1 ≤ versionOf s) × (versionOf s ≤ lastVersion s))
 unfolding versionFits

@@ -13,10 +13,17 @@ use Rattle.words.specs.Bits.{HasFrom}
 use Rattle.answers.specs.Numbers.{sixNumbers}
 use Rattle.answers.specs.Causes.{Cause, _gives_, only, NoCause}
 use Rattle.tables.specs.Table.{versionOf, lastVersion, layoutIn, statesOf, startOf, startsOf, startWord, stepsOf, tableLength, fromIn, toIn, keyIn}
+use Rattle.table_reader.specs.declared.Known.{Known}
+use Rattle.table_reader.specs.declared.Known.the-variants.{Both, Plain}
 
 -- Bytes 0 to 2 are "TP" and this third one.
 abbrev pub MagicFits : ℕ → List ℕ → Type 0
 MagicFits third s = (byteAt s 0 ≡ 0x54) × (byteAt s 1 ≡ 0x50) × (byteAt s 2 ≡ third)
+
+-- They are those of a kind that the reader knows: "TPT" or "TPK", or "TPT" alone.
+abbrev pub MagicKnown : Known → List ℕ → Type 0
+MagicKnown Both s = MagicFits 0x54 s ⊎ MagicFits 0x4B s
+MagicKnown Plain s = MagicFits 0x54 s
 
 -- An end of step j is n or more.
 abbrev pub EndOutside : List ℕ → ℕ → Type 0
@@ -50,12 +57,12 @@ abbrev pub WrongStarts : (word n : ℕ) → Type 0
 WrongStarts word n = (word ≡ 0) ⊎ HasFrom word n
 
 -- The causes of the header and the length, in their order.
-abbrev pub headerCauses : ℕ → List ℕ → List Cause
-headerCauses file s =
+abbrev pub headerCauses : Known → ℕ → List ℕ → List Cause
+headerCauses known file s =
     -- table under 9 bytes
     (length s < 9) gives sixNumbers 1 file 0
-    -- first three bytes: neither "TPT" nor "TPK"
-    ∷ (¬ (MagicFits 0x54 s ⊎ MagicFits 0x4B s)) gives sixNumbers 2 file 0
+    -- first three bytes: those of no kind that is known
+    ∷ (¬ MagicKnown known s) gives sixNumbers 2 file 0
     -- version other than 1 to 4, of a table with keys other than 1
     ∷ (¬ ((1 ≤ versionOf s) × (versionOf s ≤ lastVersion s))) gives sixNumbers 3 file 0
     -- under the length of its header: 16 bytes with a start word, and 9, tested above, without
@@ -92,13 +99,13 @@ StepsRise s = T (layoutIn s .rising)
 abbrev pub orderCauses : ℕ → List ℕ → List Cause
 orderCauses file s = only (StepsRise s) (notGreaterCauses file s) ++ only (¬ StepsRise s) (doubledCauses file s)
 
--- The causes that turn a table away, in the documents' order.
-abbrev pub tableCauses : ℕ → List ℕ → List Cause
-tableCauses file s = headerCauses file s ++ (endCauses file s ++ orderCauses file s)
+-- The causes that turn a table of the kinds that are known away, in the documents' order.
+abbrev pub knownCauses : Known → ℕ → List ℕ → List Cause
+knownCauses known file s = headerCauses known file s ++ (endCauses file s ++ orderCauses file s)
 
--- The causes where the reader knows "TPT" alone: under 9 bytes, the first three bytes, then those of any table.
-abbrev pub plainTableCauses : ℕ → List ℕ → List Cause
-plainTableCauses file s = (length s < 9) gives sixNumbers 1 file 0 ∷ (¬ MagicFits 0x54 s) gives sixNumbers 2 file 0 ∷ tableCauses file s
+-- The same where both kinds are known.
+abbrev pub tableCauses : ℕ → List ℕ → List Cause
+tableCauses = knownCauses Both
 
 -- Their numbers: 1 to 9, 24 and 28.
 abbrev pub tableNumber : ℕ → Bool

@@ -43,12 +43,15 @@ use Rattle.refusals.specs.declared.TableRefusal.the-variants.{
   Doubled,
   NotGreater,
 }
+use Rattle.table_reader.specs.declared.Known.{Known}
+use Rattle.table_reader.specs.declared.Known.the-variants.{Both, Plain}
 use Rattle.table_reader.specs.declared.TableRead.{TableRead}
 use Rattle.table_reader.specs.declared.TableRead.the-variants.{Good, Refused}
 
--- The first three bytes are "TPT", or "TPK" of a table with keys.
-unfoldable pub magicKnown : List ℕ → Bool
-magicKnown s = magicFits 0x54 s || magicFits 0x4B s
+-- The first three bytes are those of a kind that is known: "TPT", or "TPK" of a table with keys; or "TPT" alone.
+unfoldable pub magicKnown : Known → List ℕ → Bool
+magicKnown Both s = magicFits 0x54 s || magicFits 0x4B s
+magicKnown Plain s = magicFits 0x54 s
 
 -- The version is 1 to 4, and 1 of a table with keys.
 unfoldable pub versionFits : List ℕ → Bool
@@ -108,10 +111,10 @@ readSizes s =
     (readLength s))))
 
 -- Causes 1 to 3, then the others of the header.
-unfoldable pub readHeader : List ℕ → TableRead
-readHeader s =
+unfoldable pub readHeader : Known → List ℕ → TableRead
+readHeader known s =
     cond (ltb (length s) startHeader) (Refused Short)
-    (cond (not (magicKnown s)) (Refused Magic)
+    (cond (not (magicKnown known s)) (Refused Magic)
     (cond (not (versionFits s)) (Refused Version)
     (readSizes s)))
 
@@ -132,13 +135,10 @@ abbrev pub withSteps : List ℕ → TableRead → TableRead
 withSteps s (Good h) = readSteps h (stepsPart s)
 withSteps s (Refused r) = Refused r
 
--- What reading a table gives: a header, or the refusal.
-unfoldable pub readTable : List ℕ → TableRead
-readTable s = withSteps s (readHeader s)
+-- What reading a table of the kinds that are known gives: a header, or the refusal.
+unfoldable pub readKnown : Known → List ℕ → TableRead
+readKnown known s = withSteps s (readHeader known s)
 
--- What reading a table gives where the reader knows "TPT" alone: 1 and 2, and 2 for a table with keys too, then the others.
-unfoldable pub readPlainTable : List ℕ → TableRead
-readPlainTable s =
-    cond (ltb (length s) startHeader) (Refused Short)
-    (cond (not (magicFits 0x54 s)) (Refused Magic)
-    (readTable s))
+-- The same where both kinds are known.
+abbrev pub readTable : List ℕ → TableRead
+readTable = readKnown Both

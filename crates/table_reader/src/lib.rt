@@ -23,10 +23,16 @@ ghost use mathlib.Core.Path.{_≡_};
 ghost use Rattle.lists.specs.Below.{firstBelow};
 ghost use Rattle.answers.specs.Verdicts.{refusalOf};
 ghost use Rattle.tables.specs.Table.{magicFits, fromOf, toOf};
-ghost use Rattle.table_reader.specs.TableReading.{magicKnown, headOf, wrongStarts, readLength, readSizes, readHeader, readTable, readPlainTable};
+ghost use Rattle.table_reader.specs.TableReading.{magicKnown, headOf, wrongStarts, readLength, readSizes, readHeader, readKnown};
 ghost use Rattle.table_reader.specs.TableReading.{endsOutside, doubled, greater, notGreater};
 ghost use Rattle.table_reader.specs.EndsSeen.{EndsBelow};
 ghost use Rattle.table_reader.specs.TableVerdicts.{tableVerdict};
+
+// The kinds of table that a reader knows: those without keys and those with keys, or those without keys alone.
+pub enum Known {
+    Both,
+    Plain,
+}
 
 // What reading a table gives.
 pub enum TableRead {
@@ -47,14 +53,17 @@ pub fn magic_fits(s: &[u8], third: usize) -> bool
     byte(s, 2) == third
 }
 
-// Whether the first three bytes are those of a table, without keys or with keys.
-fn magic_known(s: &[u8]) -> bool
-    ensures { λ r. ⌜ r ≡ magicKnown (now (s .entry)) ⌝ }
+// Whether the first three bytes are those of a table of a kind that is known.
+fn magic_known(s: &[u8], known: Known) -> bool
+    ensures { λ r. ⌜ r ≡ magicKnown known (now (s .entry)) ⌝ }
 {
     if magic_fits(s, Head::TABLE) {
         return true;
     }
-    magic_fits(s, Head::KEYED_TABLE)
+    match known {
+        Known::Both => magic_fits(s, Head::KEYED_TABLE),
+        Known::Plain => false,
+    }
 }
 
 // What the header says, whether or not the table is good.
@@ -124,13 +133,13 @@ fn read_sizes(s: &[u8]) -> TableRead
 }
 
 // Causes 1 to 3, then the others of the header.
-fn read_header(s: &[u8]) -> TableRead
-    ensures { λ r. ⌜ r ≡ readHeader (now (s .entry)) ⌝ }
+fn read_header(s: &[u8], known: Known) -> TableRead
+    ensures { λ r. ⌜ r ≡ readHeader known (now (s .entry)) ⌝ }
 {
     if s.len() < Layout::ONE_START {
         return TableRead::Refused(TableRefusal::Short);
     }
-    if !magic_known(s) {
+    if !magic_known(s, known) {
         return TableRead::Refused(TableRefusal::Magic);
     }
     let version = version(s);
@@ -214,11 +223,11 @@ fn first_not_greater(steps: &[u8], format: Format, m: usize) -> usize
     m
 }
 
-// The causes of the header, then 8, then by the format 24 or 9: the header of the table, or its refusal.
-pub fn read_table(s: &[u8]) -> TableRead
-    ensures { λ r. ⌜ r ≡ readTable (now (s .entry)) ⌝ }
+// The causes of the header, then 8, then by the format 24 or 9: the header of a table of the kinds that are known, or its refusal.
+pub fn read_table(s: &[u8], known: Known) -> TableRead
+    ensures { λ r. ⌜ r ≡ readKnown known (now (s .entry)) ⌝ }
 {
-    let read = read_header(s);
+    let read = read_header(s, known);
     let TableRead::Good(head) = read else {
         return read;
     };
@@ -241,19 +250,6 @@ pub fn read_table(s: &[u8]) -> TableRead
         return TableRead::Refused(TableRefusal::Doubled(doubled));
     }
     read
-}
-
-// Reads a table as one that knows no keys: causes 1 and 2, and 2 for a table with keys too, then the others.
-pub fn read_plain_table(s: &[u8]) -> TableRead
-    ensures { λ r. ⌜ r ≡ readPlainTable (now (s .entry)) ⌝ }
-{
-    if s.len() < Layout::ONE_START {
-        return TableRead::Refused(TableRefusal::Short);
-    }
-    if !magic_fits(s, Head::TABLE) {
-        return TableRead::Refused(TableRefusal::Magic);
-    }
-    read_table(s)
 }
 
 // The answer of a table's read that is no header; for a header it is blank.

@@ -23,6 +23,7 @@ use Rattle.tables.specs.Table.{layoutOf, layoutIn, statesOf, startWord, initial
 use Rattle.tables.specs.Model.{systemOf}
 use Rattle.tables.proofs.LabelLaws.{label-back}
 use Rattle.table_reader.specs.TableCauses.{StatesFit, WrongStarts, EndOutside as Outside, Greater, NotGreater, StepsRise, WellFormedTable}
+use Rattle.table_reader.specs.declared.Known.the-variants.{Both}
 use Rattle.table_reader.specs.TableCauses.{headerCauses, endCauses as tableEndCauses, doubledCauses as tableDoubledCauses, notGreaterCauses, orderCauses}
 use Rattle.table_reader.specs.EndsSeen.{EndsBelow}
 use Rattle.table_reader.proofs.TestLaws.{states-decides}
@@ -164,7 +165,7 @@ module _ (marks : List ℕ) (starts : ℕ) (steps : List ℕ) (w : Writable mark
 
   pub written-formed : WellFormedTable table
   written-formed =
-      none-append (headerCauses 0 table) (tableEndCauses 0 table ++ orderCauses 0 table) header
+      none-append (headerCauses Both 0 table) (tableEndCauses 0 table ++ orderCauses 0 table) header
       (none-append (tableEndCauses 0 table) (orderCauses 0 table)
       (none-below (stepsOf table) (Outside table) (sixNumbers 8 0) (λ j l. ends-inside j (omega (arith, count-is))))
       (none-append (only (StepsRise table) (notGreaterCauses 0 table)) (only (¬ StepsRise table) (tableDoubledCauses 0 table))
@@ -172,7 +173,7 @@ module _ (marks : List ℕ) (starts : ℕ) (steps : List ℕ) (w : Writable mark
       (none-below (stepsOf table) (NotGreater table) (sixNumbers 24 0) (λ j l. rising j (omega (arith, count-is)))))
       (only-out (¬ StepsRise table) (tableDoubledCauses 0 table) (λ n. n (true-T _ steps-rise)))))
     where
-      header : NoCause (headerCauses 0 table)
+      header : NoCause (headerCauses Both 0 table)
       header =
           let long = file.file-length marks starts steps once-in-order in
           let v = file.version-is marks starts steps in

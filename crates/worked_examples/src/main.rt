@@ -17,6 +17,7 @@ use certificate_reader::RelationRead;
 use certificates::Sizes;
 use lists::byte;
 use lists::part_of;
+use table_reader::Known;
 use table_reader::TableRead;
 ghost use Prim.Native.Nat.{_<_, _≤_};
 ghost use lib.ListN.{length};
@@ -80,7 +81,7 @@ fn print_bytes(bytes: &[u8]) {
 // ---- what the readers say
 
 fn show_table(s: &[u8], file: usize) {
-    let read = table_reader::read_table(s);
+    let read = table_reader::read_table(s, Known::Both);
     match read {
         TableRead::Good(head) => {
             let initial = head.initial;
@@ -92,7 +93,7 @@ fn show_table(s: &[u8], file: usize) {
 
 // Reads the left table, then the right, and shows the first that is refused, or the right one.
 fn show_tables(left: &[u8], right: &[u8]) {
-    let read = table_reader::read_table(left);
+    let read = table_reader::read_table(left, Known::Both);
     let TableRead::Good(_) = read else {
         show_table(left, 0);
         return;

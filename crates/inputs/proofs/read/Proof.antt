@@ -6,6 +6,7 @@ use Rattle.certificates.specs.declared.Sizes.{Sizes}
 use Rattle.certificates.specs.Layout.{sizesOf}
 use Rattle.certificate_reader.specs.CertificateReading.{readRelation}
 use Rattle.certificate_reader.proofs.CertificateLaws.{sizes-are}
+use Rattle.table_reader.specs.declared.Known.the-variants.{Both}
 use Rattle.table_pairs.specs.TablePairs.{tablesVerdict}
 use Rattle.table_pairs.specs.declared.TablesRead.the-variants.{Refused}
 use Rattle.table_pairs.proofs.PairLaws.{was-good, tables-read}
@@ -16,7 +17,7 @@ use Rattle.inputs.proofs.read.Tie as tie
 
 -- the tables are read
 both : (c : tie.After-tables)
-    → tablesVerdict (now (c .before .before .before .before .before .before .args .left)) (now (c .before .before .before .before .before .before .args .right)) ≡ goOn (c .tables .given .0 .0)
+    → tablesVerdict Both (now (c .before .before .before .before .before .before .args .left)) (now (c .before .before .before .before .before .before .args .right)) ≡ goOn (c .tables .given .0 .0)
 both c = was-good _ _ (sym (c .before .before .read-tables .ensures) ∙ c .tables .given .1)
 
 -- the relation is read with the sizes that the bytes of the tables give
@@ -24,7 +25,7 @@ read-is : (c : tie.After-read-relation) → let a = c .before .before .before .b
     c .read-relation .result ≡ readRelation (sizesOf (now (a .left)) (now (a .right))) (now (a .relation))
 read-is c =
     let a = c .before .before .before .before .before .before .before .before .before .args in
-    let read = tables-read (now (a .left)) (now (a .right)) (both (c .before .before .before)) in
+    let read = tables-read Both (now (a .left)) (now (a .right)) (both (c .before .before .before)) in
     c .read-relation .ensures
     ∙ ap (λ (z : Sizes). readRelation z (now (a .relation)))
     (c .before .of .ensures ∙ sizes-are (now (a .left)) (now (a .right)) (read .left-good) (read .right-good))

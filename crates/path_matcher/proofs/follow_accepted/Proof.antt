@@ -31,7 +31,7 @@ follow-sides-requires : tie.Need-follow-sides-requires
 follow-sides-requires c κs =
     let l = c .before .before in
     let s = l .before .before .before .before .before .before .before in
-    left-met _ _ _ (start-at s .pre .0) (start-at s .pre .1) (bytes s) (s .sides-of .ensures) (l .left .ensures)
+    left-met _ _ _ (start-at s .pre) (bytes s) (s .sides-of .ensures) (l .left .ensures)
 
 same-length : tie.Need-same-length
 same-length c = search needs
@@ -43,7 +43,7 @@ returns : tie.Need-returns
 returns c =
     let l = left-at c in
     let s = l .before .before .before .before .before .before .before in
-    left-followed _ _ _ (start-at s .pre .0) (start-at s .pre .1) (bytes s) (s .sides-of .ensures) (l .left .ensures) _ _ _ _ (l .before .before .before .if1 .taken)
+    left-followed _ _ _ (start-at s .pre) (bytes s) (s .sides-of .ensures) (l .left .ensures) _ _ _ _ (l .before .before .before .if1 .taken)
     (c .before .before .before .before .follow-sides .ensures)
 
 right-requires : tie.Need-right-requires
@@ -53,7 +53,7 @@ follow-sides-requires-2 : tie.Need-follow-sides-requires-2
 follow-sides-requires-2 c κs =
     let r = c .before .before in
     let s = r .before .before .before .before .before .before .before .before in
-    right-met _ _ _ (start-at s .pre .0) (start-at s .pre .1) (bytes s) (s .sides-of .ensures) (r .right .ensures)
+    right-met _ _ _ (start-at s .pre) (bytes s) (s .sides-of .ensures) (r .right .ensures)
 
 same-length-3 : tie.Need-same-length-3
 same-length-3 c = search needs
@@ -65,7 +65,7 @@ returns-2 : tie.Need-returns-2
 returns-2 c =
     let r = right-at c in
     let s = r .before .before .before .before .before .before .before .before in
-    right-followed _ _ _ (start-at s .pre .0) (start-at s .pre .1) (bytes s) (s .sides-of .ensures) (r .right .ensures) _ _ _ _ (r .before .before .before .if2 .taken)
+    right-followed _ _ _ (start-at s .pre) (bytes s) (s .sides-of .ensures) (r .right .ensures) _ _ _ _ (r .before .before .before .if2 .taken)
     (c .before .before .before .before .follow-sides2 .ensures)
 
 refusal-requires : tie.Need-refusal-requires
@@ -74,7 +74,7 @@ refusal-requires c κs = search needs
 returns-3 : tie.Need-returns-3
 returns-3 c =
     let s = c .before .before .before .before .before .before in
-    no-side _ _ _ (start-at s .pre .0) (start-at s .pre .1) _ _ _ _ (c .before .before .if1 .left) (c .before .if2 .left) (c .refusal .ensures)
+    no-side _ _ _ (start-at s .pre) _ _ _ _ (c .before .before .if1 .left) (c .before .if2 .left) (c .refusal .ensures)
 
 pub follow-accepted-spec : {M : Type 1} → statement M
 follow-accepted-spec =

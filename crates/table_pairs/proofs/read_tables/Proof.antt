@@ -1,10 +1,8 @@
 -- `table_pairs::read_tables` meets its contract: each table is read, and the first that is refused answers; then their kinds are compared. Assumes nothing.
-use Prim.Native.Nat.{ℕ}
-use mathlib.Core.Path.{_≡_, sym, ap, _∙_}
-use mathlib.Core.Bool.{Bool, true, false, cond}
+use mathlib.Core.Path.{sym, ap, _∙_}
+use mathlib.Core.Bool.{true, false}
 use denote.Ref.{now}
-use Rattle.answers.specs.Numbers.{sixNumbers}
-use Rattle.table_pairs.specs.declared.TablesRead.the-variants.{Good, Refused}
+use Rattle.table_pairs.specs.declared.TablesRead.the-variants.{Refused}
 use Rattle.table_pairs.proofs.PairLaws.{left-refuses, right-refuses, by-kind}
 use borrow.Author.Needs.{needs}
 use Rattle.table_pairs.proofs.read_tables.Statement.{statement}
@@ -25,7 +23,7 @@ table-answer-requires c κs = search needs
 returns : tie.Need-returns
 returns c = let a = c .before .before .before .before .before .before .args in
     ap Refused (c .table-answer .ensures)
-    ∙ left-refuses (now (a .left)) (now (a .right)) (c .before .before .before .read-table .ensures) (c .before .enum-told .given .1)
+    ∙ left-refuses (a .known) (now (a .left)) (now (a .right)) (c .before .before .before .read-table .ensures) (c .before .enum-told .given .1)
 
 read-table-requires-2 : tie.Need-read-table-requires-2
 read-table-requires-2 c κs = search needs
@@ -44,7 +42,7 @@ returns-2 c = let first = c .before .before .before .before .before in
     let a = first .before .before .before .before .before .args in
     let left = sym (first .before .before .read-table .ensures) ∙ first .first .given .1 in
     ap Refused (c .table-answer2 .ensures)
-    ∙ right-refuses (now (a .left)) (now (a .right)) left (c .before .before .before .read-table2 .ensures) (c .before .enum-told2 .given .1)
+    ∙ right-refuses (a .known) (now (a .left)) (now (a .right)) left (c .before .before .before .read-table2 .ensures) (c .before .enum-told2 .given .1)
 
 same-kind-requires : tie.Need-same-kind-requires
 same-kind-requires c κs = search needs
@@ -55,7 +53,7 @@ returns-3 c = let second = c .before .before .before in
     let a = first .before .before .before .before .before .args in
     let left = sym (first .before .before .read-table .ensures) ∙ first .first .given .1 in
     let right = sym (second .before .before .read-table2 .ensures) ∙ second .second .given .1 in
-    sym (by-kind (now (a .left)) (now (a .right)) left right true (sym (c .if1 .taken) ∙ c .before .same-kind .ensures))
+    sym (by-kind (a .known) (now (a .left)) (now (a .right)) left right true (sym (c .if1 .taken) ∙ c .before .same-kind .ensures))
 
 returns-4 : tie.Need-returns-4
 returns-4 c = let second = c .before .before .before in
@@ -63,7 +61,7 @@ returns-4 c = let second = c .before .before .before in
     let a = first .before .before .before .before .before .args in
     let left = sym (first .before .before .read-table .ensures) ∙ first .first .given .1 in
     let right = sym (second .before .before .read-table2 .ensures) ∙ second .second .given .1 in
-    sym (by-kind (now (a .left)) (now (a .right)) left right false (sym (c .if1 .left) ∙ c .before .same-kind .ensures))
+    sym (by-kind (a .known) (now (a .left)) (now (a .right)) left right false (sym (c .if1 .left) ∙ c .before .same-kind .ensures))
 
 pub read-tables-spec : {M : Type 1} → statement M
 read-tables-spec =

@@ -11,9 +11,10 @@ use Rattle.tables.specs.declared.Head.{Head}
 use Rattle.tables.specs.declared.Layout.{Layout}
 use Rattle.tables.specs.Table.{layoutOf}
 use Rattle.refusals.specs.declared.TableRefusal.the-variants.{StepEnd, Doubled, NotGreater}
+use Rattle.table_reader.specs.declared.Known.{Known}
 use Rattle.table_reader.specs.declared.TableRead.{TableRead}
 use Rattle.table_reader.specs.declared.TableRead.the-variants.{Good, Refused}
-use Rattle.table_reader.specs.TableReading.{readTable, readHeader, readSteps, withSteps, endsOutside, doubled, notGreater}
+use Rattle.table_reader.specs.TableReading.{readKnown, readHeader, readSteps, withSteps, endsOutside, doubled, notGreater}
 use Rattle.table_reader.proofs.TestLaws.{outside-none}
 use Rattle.table_reader.proofs.TableCauseLaws.{header-none}
 use Rattle.table_reader.proofs.TableLaws.{head-ok}
@@ -22,22 +23,25 @@ use Rattle.table_reader.proofs.read_table.Statement.{statement}
 use Rattle.table_reader.proofs.read_table.Tie as tie
 
 -- a table is read by its header, and where that is good by its steps
-by-header : (s : List ℕ) {x : TableRead} → readHeader s ≡ x → readTable s ≡ withSteps s x
-unfolding readTable
-by-header s e = ap (withSteps s) e
+by-header : (known : Known) (s : List ℕ) {x : TableRead} → readHeader known s ≡ x → readKnown known s ≡ withSteps s x
+unfolding readKnown
+by-header known s e = ap (withSteps s) e
 
 module _ (c : tie.After-steps) where
   abbrev bytes : List ℕ
   bytes = now (c .before .before .before .before .before .before .args .s)
 
+  abbrev known : Known
+  known = c .before .before .before .before .before .before .args .known
+
   abbrev head : Head
   head = c .before .before .read .given .0 .0
 
-  good-header : readHeader bytes ≡ Good head
+  good-header : readHeader known bytes ≡ Good head
   good-header = sym (c .before .before .before .before .read-header .ensures) ∙ c .before .before .read .given .1
 
-  by-steps : readTable bytes ≡ readSteps head (now (c .steps .result))
-  by-steps = by-header bytes good-header ∙ ap (readSteps head) (sym (c .steps .ensures))
+  by-steps : readKnown known bytes ≡ readSteps head (now (c .steps .result))
+  by-steps = by-header known bytes good-header ∙ ap (readSteps head) (sym (c .steps .ensures))
 
 -- whether the steps rise, as the format says it
 rises : (c : tie.Then2) → layoutOf (head (c .before .before .before .before .before) .format) .rising ≡ true
@@ -82,7 +86,8 @@ enum-told c = search needs
 returns : tie.Need-returns
 returns c =
     let e = c .enum-told .given .1 in
-    e ∙ sym (by-header (now (c .before .before .before .before .args .s)) (sym (c .before .before .read-header .ensures) ∙ e))
+    let a = c .before .before .before .before .args in
+    e ∙ sym (by-header (a .known) (now (a .s)) (sym (c .before .before .read-header .ensures) ∙ e))
 
 steps-requires : tie.Need-steps-requires
 steps-requires c κs = search needs
@@ -119,8 +124,8 @@ returns-4 c =
 
 first-doubled-requires : tie.Need-first-doubled-requires
 first-doubled-requires c κs =
-    let h = header-none 0 _ (good-header (c .before .before .before .before .before)) in
-    let o = head-ok (bytes (c .before .before .before .before .before)) (h .0) (h .1) in
+    let h = header-none _ 0 _ (good-header (c .before .before .before .before .before)) in
+    let o = head-ok (known (c .before .before .before .before .before)) (bytes (c .before .before .before .before .before)) (h .0) (h .1) in
     outside-none _ _ _ 64 _ (c .before .before .before .before .first-outside .ensures) (c .before .before .if1 .left) (rw (o .states-is) (o .states-le))
 
 returns-5 : tie.Need-returns-5

@@ -1,4 +1,4 @@
--- `checker::judge` meets its contract: the tables are read, then the certificate, and the first refusal answers. Assumes nothing.
+-- `checker::judge_known` meets its contract: the tables are read, then the certificate, and the first refusal answers. Assumes nothing.
 use mathlib.Core.Path.{_≡_, sym, ap, _∙_}
 use denote.Ref.{now}
 use Rattle.answers.specs.Verdicts.{goOn}
@@ -11,14 +11,14 @@ use Rattle.table_pairs.proofs.PairLaws.{was-good, tables-read}
 use Rattle.checker.specs.Judge.{AllRead}
 use Rattle.checker.proofs.JudgeLaws.{tables-refused, certificate-refused, all-read}
 use borrow.Author.Needs.{needs}
-use Rattle.checker.proofs.judge.Statement.{statement}
-use Rattle.checker.proofs.judge.Tie as tie
+use Rattle.checker.proofs.judge_known.Statement.{statement}
+use Rattle.checker.proofs.judge_known.Tie as tie
 
 -- ---- the reads
 
 -- the tables are read
 both : (c : tie.After-tables)
-    → tablesVerdict (now (c .before .before .before .before .before .before .args .left)) (now (c .before .before .before .before .before .before .args .right)) ≡ goOn (c .tables .given .0 .0)
+    → let a = c .before .before .before .before .before .before .args in tablesVerdict (a .known) (now (a .left)) (now (a .right)) ≡ goOn (c .tables .given .0 .0)
 both c = was-good _ _ (sym (c .before .before .read-tables .ensures) ∙ c .tables .given .1)
 
 -- the certificate is read with the sizes that the bytes of the tables give
@@ -26,7 +26,7 @@ read-is : (c : tie.After-read-certificate) → let a = c .before .before .before
     c .read-certificate .result ≡ readCertificate (sizesOf (now (a .left)) (now (a .right))) (now (a .certificate))
 read-is c =
     let a = c .before .before .before .before .before .before .before .before .before .args in
-    let read = tables-read (now (a .left)) (now (a .right)) (both (c .before .before .before)) in
+    let read = tables-read (a .known) (now (a .left)) (now (a .right)) (both (c .before .before .before)) in
     c .read-certificate .ensures
     ∙ ap (λ (z : Sizes). readCertificate z (now (a .certificate)))
     (c .before .of .ensures ∙ sizes-are (now (a .left)) (now (a .right)) (read .left-good) (read .right-good))
@@ -36,7 +36,7 @@ all-good : (c : tie.After-enum-told2) → let heads = c .before .before .before 
     AllRead (now (a .left)) (now (a .right)) (now (a .certificate)) (heads .left) (heads .right)
 all-good c =
     let a = c .before .before .before .before .before .before .before .before .before .before .before .args in
-    let read = tables-read (now (a .left)) (now (a .right)) (both (c .before .before .before .before .before)) in
+    let read = tables-read (a .known) (now (a .left)) (now (a .right)) (both (c .before .before .before .before .before)) in
     record {
       sizes = _;
       left-good = read .left-good;
@@ -63,7 +63,7 @@ returns : tie.Need-returns
 returns c =
     let a = c .before .before .before .before .before .before .before .args in
     c .tables-answer .ensures
-    ∙ tables-refused (now (a .left)) (now (a .right)) (now (a .certificate)) (c .before .before .before .read-tables .ensures) (c .before .enum-told .given .1)
+    ∙ tables-refused (a .known) (now (a .left)) (now (a .right)) (now (a .certificate)) (c .before .before .before .read-tables .ensures) (c .before .enum-told .given .1)
 
 of-requires : tie.Need-of-requires
 of-requires c κs = search needs
@@ -84,7 +84,7 @@ returns-2 : tie.Need-returns-2
 returns-2 c =
     let a = c .before .before .before .before .before .before .before .before .before .before .before .before .args in
     c .certificate-answer .ensures
-    ∙ certificate-refused (now (a .left)) (now (a .right)) (now (a .certificate)) (both (c .before .before .before .before .before .before)) (read-is (c .before .before .before)) (c .before .enum-told3 .given .1)
+    ∙ certificate-refused (a .known) (now (a .left)) (now (a .right)) (now (a .certificate)) (both (c .before .before .before .before .before .before)) (read-is (c .before .before .before)) (c .before .enum-told3 .given .1)
 
 judge-read-requires : tie.Need-judge-read-requires
 judge-read-requires c κs = all-good c
@@ -93,10 +93,10 @@ returns-3 : tie.Need-returns-3
 returns-3 c =
     let a = c .before .before .before .before .before .before .before .before .before .before .before .before .args in
     c .judge-read .ensures
-    ∙ sym (all-read (now (a .left)) (now (a .right)) (now (a .certificate)) (both (c .before .before .before .before .before .before)) (all-good (c .before) .certificate-good))
+    ∙ sym (all-read (a .known) (now (a .left)) (now (a .right)) (now (a .certificate)) (both (c .before .before .before .before .before .before)) (all-good (c .before) .certificate-good))
 
-pub judge-spec : {M : Type 1} → statement M
-judge-spec =
+pub judge-known-spec : {M : Type 1} → statement M
+judge-known-spec =
     tie.close
     (tie.spec
     read-tables-requires
