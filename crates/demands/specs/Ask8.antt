@@ -43,7 +43,7 @@ pub record CommitExact (left right relation : List ℕ) (slip : Slip) (output : 
 
 -- ---- one after the other, on unchanged inputs
 
--- The refusals of what is not read, 1 to 9, 15, 20, 24 and 28, and those of what is read, 16, 17, 22 and 23.
+-- The refusals of what is not read, 1 to 9, 15, 20, 24, 28 and 30, and those of what is read, 16, 17, 22 and 23.
 abbrev pub OfReading : Answer → Type 0
 OfReading answer = T (inputCode (answer .code))
 

@@ -93,7 +93,7 @@ extern "C" {
 /// The most bytes that are written for a table, one of 64 states and 256 steps.
 pub const TABLE_MOST: usize = 784;
 
-/// Judges a certificate for two tables.
+/// Judges a certificate for two tables, both with keys or both without.
 pub fn judge(left: &[u8], right: &[u8], certificate: &[u8]) -> Answer {
     let mut answer = [0; 6];
     let had_room = judge_into(left, right, certificate, &mut answer);
@@ -257,9 +257,9 @@ pub fn commit_into(
     }
 }
 
-/// Follows a run of one side on the other: the matching path goes to the front of `states`
-/// and the block numbers of the states given to the front of `blocks`. On a refusal both
-/// stay as they were.
+/// Follows a run of one side on the other, of two tables without keys: the matching path goes
+/// to the front of `states` and the block numbers of the states given to the front of
+/// `blocks`. On a refusal both stay as they were.
 pub fn follow(
     left: &[u8],
     right: &[u8],
