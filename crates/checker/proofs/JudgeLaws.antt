@@ -20,7 +20,8 @@ use Rattle.certificate_reader.specs.declared.CertificateRead.the-variants as ce
 use Rattle.checker.specs.Judge.{judgeVerdict, readAnswer, judgeKnown}
 
 module _ (known : Known) (left right c : List ℕ) where
-  pub tables-refused : {x : TablesRead} {a : Answer} → x ≡ asTablesRead (tablesVerdict known left right) → x ≡ Refused a → tablesRefusal x ≡ judgeKnown known left right c
+  pub tables-refused : {x : TablesRead} {a : Answer} → x ≡ asTablesRead (tablesVerdict known left right) → x ≡ Refused a
+      → tablesRefusal x ≡ judgeKnown known left right c
   unfolding judgeKnown judgeVerdict
   tables-refused {a = a} e q = ap tablesRefusal q ∙ sym (rw (was-refused (tablesVerdict known left right) a (sym e ∙ q)))
 

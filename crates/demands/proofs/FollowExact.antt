@@ -33,7 +33,7 @@ use Rattle.table_reader.specs.declared.Known.the-variants.{Plain}
 use Rattle.table_reader.proofs.TableCauseLaws.{formed-good}
 use Rattle.table_reader.proofs.TableLaws.{table-ok}
 use Rattle.table_pairs.specs.PairCauses.{tablesCauses}
-use Rattle.table_pairs.proofs.PairCauseLaws.{plain-not-30}
+use Rattle.table_pairs.proofs.PairCauseLaws.{isNot30, plain-not-30}
 use Rattle.certificates.specs.CertificateModel.{AreBytes, viewOf, certifiedView, certifiedRanks}
 use Rattle.checker.specs.JudgeCauses.{knownJudgeCauses, judgeCauses}
 use Rattle.checker.proofs.JudgeCauseLaws.{afterTables, after-numbers, known-none}
@@ -206,17 +206,14 @@ module _ (left right c : List ℕ) (bytes : AreBytes c) (side start : ℕ) (path
       other : (k : ℕ) → k ≡ 30 → T (not (eqb k 30)) → ⊥
       other k q h = absurd (rw q at h)
 
-      isOther : (code file : ℕ) → Bool
-      isOther code file = not (eqb code 30)
-
       first-other : FirstCause causes answer → T (not (eqb (answer .code) 30))
       first-other f =
           ⊎-elim
           (λ g.
           ⊎-elim (plain-not-30 left right answer)
-          (λ h. numbered-first isOther (afterTables left right c) answer (after-numbers left right c isOther tt tt tt) (h .1))
+          (λ h. numbered-first isNot30 (afterTables left right c) answer (after-numbers left right c isNot30 tt tt tt) (h .1))
           (append-first (tablesCauses Plain left right) (afterTables left right c) answer g))
-          (λ g. numbered-first isOther after answer (tt, (tt, (tt, tt))) (g .1))
+          (λ g. numbered-first isNot30 after answer (tt, (tt, (tt, tt))) (g .1))
           (append-first (knownJudgeCauses Plain left right c) after answer f)
 
   module _ (none : NoCause causes) where

@@ -72,7 +72,8 @@ module _ (left right c : List ℕ) (bytes : AreBytes c) where
 
       -- document 01's clauses are the paper's without the conjunct of 2c, with the rank of triples
       triples-are : Certified Meets (view left right c) (ranks left right c)
-          ↔ (InitialStatesRelated (view left right c) × BisimulationWithoutConjunct (view left right c) _<_ (tripleRank (view left right c) (ranks left right c)))
+          ↔ (InitialStatesRelated (view left right c) × BisimulationWithoutConjunct (view left right c) _<_
+          (tripleRank (view left right c) (ranks left right c)))
       triples-are =
           certified-iff-triples (view left right c) formed-view (view-plain left right (rowsPart c (sizesOf left right)) (p .0) (p .1))
           (no-twice .0) (no-twice .1) (ranks left right c)

@@ -1,5 +1,6 @@
--- Demand 2 on bytes, which relations: some file that has the relation's rows is accepted exactly where some byte ranks meet the paper's clauses, and
--- without keys where the starts are related and the relation is the paper's well-founded bisimulation. The key is that byte ranks make a file, whose rows and ranks are read back. Assumes nothing.
+-- Demand 2 on bytes, which relations: some file that has the relation's rows is accepted exactly where some byte ranks meet the paper's clauses, and without
+-- keys where the starts are related and the relation is the paper's well-founded bisimulation. The key is that byte ranks make a file, whose rows and ranks
+-- are read back. Assumes nothing.
 use Prim.Native.Nat.{ℕ, _*_, _≤_, _<_}
 use mathlib.Core.Path.{_≡_, sym, ap, _∙_, subst}
 use mathlib.Core.Logic.{_↔_}

@@ -81,7 +81,8 @@ use Rattle.path_matcher.specs.Following.{
   followBlocks,
 }
 use Rattle.demands.specs.Ask9.{AllSilent}
-use Rattle.demands.specs.Examples.{line, six, slip, run, P, Q, wideP, keyedP, keyedQ, startingAt, rowsPQ, K, certificate, low, zeros, still, looping, stillCertificate}
+use Rattle.demands.specs.Examples.{line, six, slip, run, P, Q, wideP, keyedP, keyedQ}
+use Rattle.demands.specs.Examples.{startingAt, rowsPQ, K, certificate, low, zeros, still, looping, stillCertificate}
 use Rattle.demands.proofs.MakerAnswers.{made-given}
 use Rattle.demands.proofs.MakerExact.{maker-exact}
 
@@ -96,7 +97,8 @@ pub starred : (judgeAnswer P Q K ≡ six 0 0 3 4 1 1)
     × (makeAnswer still looping (low 1) (zeros 24) ≡ six 23 2 1 0 0 0)
 unfolding
     anyBelow allBelow firstBelow sumBelow countBelow bigEndian hasBit addBit hasFrom countBits firstBit is2a is2b is2c ahead
-    layoutOf formatOf keyed magicFits magicKnown versionOf formatIn lastVersion versionFits statesOf statesFit startWord startOf stepsOf initialOf tableLength stepsAt
+    layoutOf formatOf keyed magicFits magicKnown versionOf formatIn lastVersion versionFits statesOf statesFit startWord startOf stepsOf initialOf
+    tableLength stepsAt
     labelsPart stepsPart labelOf fromOf toOf keyOf endsOutside sameStep doubled readLength readSizes readHeader readSteps readKnown sameKind tablesVerdict
     systemOf sizesOf certificateLength alAt arAt clAt crAt rowsPart rowOf certificateSizesFit wideRow
     readRows readCertificate certificates.readHeader relatedIn viewOf ranksOf smallestEntered outcomeAfter2a isApart obligationAt
@@ -119,8 +121,10 @@ pub two-starts : (judgeAnswer P (startingAt 3) K ≡ six 0 0 3 4 1 1)
     × (judgeAnswer P (take 15 (startingAt 3)) K ≡ six 1 1 0 0 0 0)
 unfolding
     anyBelow allBelow firstBelow sumBelow countBelow bigEndian hasBit addBit hasFrom countBits firstBit is2a is2b is2c ahead
-    layoutOf formatOf keyed magicFits magicKnown versionOf formatIn lastVersion versionFits statesOf statesFit startWord startOf startsOf stepsOf initialOf tableLength stepsAt wrongStarts
-    labelsPart stepsPart labelOf fromOf toOf keyOf endsOutside sameStep doubled greater notGreater readLength readSizes readHeader readSteps readKnown sameKind tablesVerdict
+    layoutOf formatOf keyed magicFits magicKnown versionOf formatIn lastVersion versionFits statesOf statesFit startWord startOf startsOf stepsOf initialOf
+    tableLength stepsAt wrongStarts
+    labelsPart stepsPart labelOf fromOf toOf keyOf endsOutside sameStep doubled greater notGreater readLength readSizes readHeader readSteps readKnown
+    sameKind tablesVerdict
     systemOf sizesOf certificateLength alAt arAt clAt crAt rowsPart rowOf certificateSizesFit wideRow
     readRows readCertificate certificates.readHeader relatedIn viewOf ranksOf smallestEntered outcomeAfter2a isApart obligationAt
     joinBelow stepsFrom pairChecks checksBy checks along startsNamed unpaired unpairedVerdict startsVerdict checkVerdict
@@ -129,8 +133,9 @@ unfolding
     readVerdict examinedVerdict verdictWith makeAnswer makeOutput fileFor certificateHeader certificateFile bigBytes tabulate grid putAt putFront
 two-starts = (refl, refl, refl, refl, refl, refl, refl, refl, refl)
 
--- P and Q with keys: where Q's pause is silent and the other steps have P's keys, the maker writes K and the judge accepts it; where Q's second step has another
--- key, or the pause has one, P's first step has no answer; one table with keys and one without get 30, after the right table is read; and no run is followed, 2 for either table.
+-- P and Q with keys: where Q's pause is silent and the other steps have P's keys, the maker writes K and the judge accepts it; where Q's second step has
+-- another key, or the pause has one, P's first step has no answer; one table with keys and one without get 30, after the right table is read; and no run is
+-- followed, 2 for either table.
 pub keyed-PQ : (judgeAnswer (keyedP 7 9) (keyedQ 0 7 9) K ≡ six 0 0 3 4 1 1)
     × (makeAnswer (keyedP 7 9) (keyedQ 0 7 9) rowsPQ (zeros 51) ≡ six 0 0 51 0 0 0)
     × (makeOutput (keyedP 7 9) (keyedQ 0 7 9) rowsPQ (zeros 51) ≡ K)
@@ -143,8 +148,10 @@ pub keyed-PQ : (judgeAnswer (keyedP 7 9) (keyedQ 0 7 9) K ≡ six 0 0 3 4 1 1)
     × (followAnswer P (keyedQ 0 7 9) K 0 0 run (zeros 12) (zeros 6) ≡ six 2 1 0 0 0 0)
 unfolding
     anyBelow allBelow firstBelow sumBelow countBelow bigEndian hasBit addBit hasFrom countBits firstBit is2a is2b is2c ahead
-    layoutOf formatOf keyed magicFits magicKnown versionOf formatIn lastVersion versionFits statesOf statesFit startWord startOf startsOf stepsOf initialOf tableLength stepsAt wrongStarts
-    labelsPart stepsPart labelOf fromOf toOf keyOf endsOutside sameStep doubled greater notGreater readLength readSizes readHeader readSteps readKnown sameKind tablesVerdict
+    layoutOf formatOf keyed magicFits magicKnown versionOf formatIn lastVersion versionFits statesOf statesFit startWord startOf startsOf stepsOf initialOf
+    tableLength stepsAt wrongStarts
+    labelsPart stepsPart labelOf fromOf toOf keyOf endsOutside sameStep doubled greater notGreater readLength readSizes readHeader readSteps readKnown
+    sameKind tablesVerdict
     systemOf sizesOf certificateLength alAt arAt clAt crAt rowsPart rowOf certificateSizesFit wideRow
     readRows readCertificate certificates.readHeader relatedIn viewOf ranksOf smallestEntered outcomeAfter2a isApart obligationAt
     joinBelow stepsFrom pairChecks checksBy checks along startsNamed unpaired unpairedVerdict startsVerdict checkVerdict
@@ -177,8 +184,10 @@ pub followed-PQK : (followAnswer P Q K 0 0 run (zeros 12) (zeros 6) ≡ six 0 0 
     × (followStates P Q K 1 0 (0 ∷ 1 ∷ 2 ∷ 0 ∷ []) (zeros 9) (zeros 8) ≡ 0 ∷ 0 ∷ 0 ∷ 1 ∷ 0 ∷ 1 ∷ 0 ∷ 0 ∷ 2 ∷ [])
     × (followBlocks P Q K 1 0 (0 ∷ 1 ∷ 2 ∷ 0 ∷ []) (zeros 9) (zeros 8) ≡ 0 ∷ 0 ∷ 0 ∷ 0 ∷ 0 ∷ 1 ∷ 0 ∷ 2 ∷ [])
 unfolding
-    anyBelow firstBelow bigEndian hasBit hasFrom is2a is2b is2c layoutOf formatOf keyed magicFits magicKnown versionOf formatIn lastVersion versionFits statesOf statesFit startWord startOf
-    stepsOf tableLength stepsAt labelsPart stepsPart labelOf fromOf toOf keyOf endsOutside sameStep doubled readLength readSizes readHeader readSteps readKnown sameKind tablesVerdict
+    anyBelow firstBelow bigEndian hasBit hasFrom is2a is2b is2c layoutOf formatOf keyed magicFits magicKnown versionOf formatIn lastVersion versionFits
+    statesOf statesFit startWord startOf
+    stepsOf tableLength stepsAt labelsPart stepsPart labelOf fromOf toOf keyOf endsOutside sameStep doubled readLength readSizes readHeader readSteps
+    readKnown sameKind tablesVerdict
     systemOf sizesOf certificateLength alAt arAt clAt rowsPart rowOf certificateSizesFit wideRow readRows readCertificate certificates.readHeader relatedIn
     viewOf ranksOf smallestEntered outcomeAfter2a obligationAt joinBelow stepsFrom pairChecks checksBy checks along startsNamed startsVerdict checkVerdict
     judged judgedBytes judgeVerdict mostBelow smallestStep moves matchSteps matchPath stepOf stepsAlong numberedFrom followed givenEntries matchingEntries
@@ -193,7 +202,8 @@ pub made-K : (length K ≡ 51)
     × (makeAnswer P Q rowsPQ (zeros 50) ≡ six 21 3 51 0 0 0)
 unfolding
     anyBelow allBelow firstBelow sumBelow countBelow bigEndian hasBit addBit hasFrom countBits firstBit is2a is2b is2c ahead
-    layoutOf formatOf keyed magicFits magicKnown versionOf formatIn lastVersion versionFits statesOf statesFit startWord startOf stepsOf initialOf tableLength stepsAt
+    layoutOf formatOf keyed magicFits magicKnown versionOf formatIn lastVersion versionFits statesOf statesFit startWord startOf stepsOf initialOf
+    tableLength stepsAt
     labelsPart stepsPart labelOf fromOf toOf keyOf endsOutside sameStep doubled readLength readSizes readHeader readSteps readKnown sameKind tablesVerdict
     systemOf sizesOf certificateLength alAt arAt clAt crAt rowsPart rowOf certificateSizesFit wideRow
     readRows readCertificate certificates.readHeader relatedIn viewOf ranksOf smallestEntered outcomeAfter2a isApart obligationAt
@@ -216,7 +226,8 @@ pub enquired-PQ : (enquiryFor P Q rowsPQ ≡ record { answer = six 0 0 51 0 0 0;
     × (commitAnswer still looping (low 1) (slip 0 0 0 0) (zeros 24) ≡ six 29 2 0 0 0 0)
 unfolding
     anyBelow allBelow firstBelow sumBelow countBelow bigEndian hasBit addBit hasFrom countBits firstBit is2a is2b is2c ahead
-    layoutOf formatOf keyed magicFits magicKnown versionOf formatIn lastVersion versionFits statesOf statesFit startWord startOf stepsOf initialOf tableLength stepsAt
+    layoutOf formatOf keyed magicFits magicKnown versionOf formatIn lastVersion versionFits statesOf statesFit startWord startOf stepsOf initialOf
+    tableLength stepsAt
     labelsPart stepsPart labelOf fromOf toOf keyOf endsOutside sameStep doubled readLength readSizes readHeader readSteps readKnown sameKind tablesVerdict
     systemOf sizesOf certificateLength alAt arAt clAt crAt rowsPart rowOf certificateSizesFit wideRow
     readRows readCertificate certificates.readHeader relatedIn viewOf ranksOf smallestEntered outcomeAfter2a isApart obligationAt

@@ -8,7 +8,7 @@ use native.Mathlib.Nat.{not-suc-le-zero}
 use native.Mathlib.Numerals.{sub-one}
 use native.Mathlib.Omega.{arith}
 use native.Mathlib.Decide.{decLt, ℕ-discrete}
-use lib.Dec.{T, eqb, eqb→eq, leb, ltb, ltb→lt, lt→ltb}
+use lib.Dec.{T, eqb, eqb→eq, ltb, ltb→lt, lt→ltb}
 use lib.ListN.{length, getD, set, replicate, length-set, length-replicate}
 use lib.Seq.{getD-set-same, getD-set-other}
 use borrow.Author.Count.{below-more}
@@ -236,7 +236,11 @@ module _ (ours theirs distances : List ℕ) (t j : ℕ) where
     unfolding isOpen openBy
     open-matched en ex l =
         let k : byteAt distances (j * 64 + t) < systemIn theirs .states = rw (en, ex) at l in
-        simp (lt-ltb (systemIn ours .from j) 64 h, lt-leb (systemIn theirs .states) (byteAt distances (j * 64 + t)) k, and-false (stays (viewIn ours theirs) j t))
+        simp (
+          lt-ltb (systemIn ours .from j) 64 h,
+          lt-leb (systemIn theirs .states) (byteAt distances (j * 64 + t)) k,
+          and-false (stays (viewIn ours theirs) j t),
+        )
 
     -- it is unmatched, and open where it is silent
     pub open-by : {n x : ℕ} → n ≡ systemIn theirs .states → x ≡ byteAt distances (j * 64 + t) → b ≡ true → n ≤ x

@@ -117,7 +117,8 @@ module _ (v : View) (j : ℕ) where
         }
 
     -- a silent step that shortens a length
-    pub bounds-lower : (k : ℕ) → k < other .steps → T (other .silent k) → other .from k < 64 → other .to k < 64 → getD row (other .to k) 0 + 1 < getD row (other .from k) 0
+    pub bounds-lower : (k : ℕ) → k < other .steps → T (other .silent k) → other .from k < 64 → other .to k < 64
+        → getD row (other .to k) 0 + 1 < getD row (other .from k) 0
         → T (related from (other .from k))
         → Bounds v j e (set row (other .from k) (getD row (other .to k) 0 + 1))
     unfolding matchesWithin
@@ -211,7 +212,8 @@ module _ (v : View) (j : ℕ) where
   -- one turn of the round, for the step from x to y
   module _ (small : (t : ℕ) → T (related from t) → t < 64) (word : ℕ) (is : (t : ℕ) → hasBit word t ≡ related from t)
       {e : ℕ} {before row : List ℕ} {changed : Bool} (r : Round v j e before row changed) {x y : ℕ} (x-is : x ≡ other .from e) (y-is : y ≡ other .to e) where
-    pub round-lower : {s : Bool} → e < other .steps → s ≡ shortens word row x y (other .silent e) → s ≡ true → Round v j (e + 1) before (set row x (getD row y 0 + 1)) true
+    pub round-lower : {s : Bool} → e < other .steps → s ≡ shortens word row x y (other .silent e) → s ≡ true
+        → Round v j (e + 1) before (set row x (getD row y 0 + 1)) true
     round-lower l d h =
         let q = shortens-e word row x y (other .silent e) d h in
         let k : x < length row = omega (arith, r .bounds .len, q .0) in
@@ -241,8 +243,10 @@ module _ (v : View) (j : ℕ) where
 
 -- ---- the start, by the words of the states related to the two ends of our step
 
-module _ (ours theirs : List ℕ) (j : ℕ) {from to : ℕ} (from-is : from ≡ relatedTo ours (systemIn ours .from j)) (to-is : to ≡ relatedTo ours (systemIn ours .to j))
-    {key : ℕ} (key-is : key ≡ keyAt ours j) {e : ℕ} {row : List ℕ} (b : Bounds (viewIn ours theirs) j e row) {m : Bool} (m-is : m ≡ metBy theirs from to key e) where
+module _ (ours theirs : List ℕ) (j : ℕ) {from to : ℕ} (from-is : from ≡ relatedTo ours (systemIn ours .from j))
+    (to-is : to ≡ relatedTo ours (systemIn ours .to j))
+    {key : ℕ} (key-is : key ≡ keyAt ours j) {e : ℕ} {row : List ℕ} (b : Bounds (viewIn ours theirs) j e row) {m : Bool}
+    (m-is : m ≡ metBy theirs from to key e) where
   -- their step e meets the obligation
   met-parts : T m → T (hasBit from (systemIn theirs .from e)) × T (hasBit to (systemIn theirs .to e)) × T (eqb (keyAt theirs e) key)
   unfolding metBy
@@ -280,7 +284,8 @@ zeroed-more {word} {more} {row} {x} z h l e =
     record {
       zeros = λ y b. elim (ℕ-discrete y x) [
         | yes q ↦ ap (λ (i : ℕ). getD (set row x 0) i 0) q ∙ getD-set-same row x 0 0 k
-        | no q ↦ getD-set-other row x y 0 0 q ∙ z .zeros y (subst T (ap (λ (w : ℕ). hasBit w y) e ∙ has-add-below word x y h ∙ ap (λ (c : Bool). c || hasBit word y) (ne-eqb y x q)) b)
+        | no q ↦ getD-set-other row x y 0 0 q ∙ z .zeros y
+            (subst T (ap (λ (w : ℕ). hasBit w y) e ∙ has-add-below word x y h ∙ ap (λ (c : Bool). c || hasBit word y) (ne-eqb y x q)) b)
       ];
     }
 

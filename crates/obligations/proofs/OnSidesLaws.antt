@@ -132,7 +132,8 @@ module _ (ours theirs certificate : List ℕ) (run : Run) (j t : ℕ) where
         ap (λ (b : Bool). (systemIn ours .silent j && hasBit (relatedTo ours (systemIn ours .to j)) t) && b) (le-ltb _ _ k)
         ∙ and-false (systemIn ours .silent j && hasBit (relatedTo ours (systemIn ours .to j)) t)
 
-    pub by-match : {ahead : ℕ} {ranks : List ℕ} → stutters ≡ false → ahead ≡ bitAnd (silentFrom theirs t) (relatedTo ours s) → ranks ≡ matchRow certificate run j
+    pub by-match : {ahead : ℕ} {ranks : List ℕ} → stutters ≡ false → ahead ≡ bitAnd (silentFrom theirs t) (relatedTo ours s)
+        → ranks ≡ matchRow certificate run j
         → withoutStutter stays ahead ranks t ≡ outcomeByRanks ours theirs certificate run j t
     unfolding outcomeByRanks withoutStep
     by-match n ea er = sym (rw n (sym (rw (ea, er, stays-is, es))))

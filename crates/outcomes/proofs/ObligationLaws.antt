@@ -14,9 +14,8 @@ use Rattle.lists.proofs.BoolLaws.{and-l, and-r, and-i, eq→eqb, same-T}
 use Rattle.lists.proofs.BelowLaws as below
 use Rattle.words.specs.Bits.{hasBit, firstBit, removeBit, countBits}
 use Rattle.words.proofs.BitLaws as bits
-use Rattle.outcomes.specs.declared.Clause.the-variants.{Step, Stutter, Match}
-use Rattle.outcomes.specs.declared.Failure.the-variants.{Apart, Rank}
-use Rattle.outcomes.specs.declared.Outcome.the-variants.{Met, Failed}
+use Rattle.outcomes.specs.declared.Clause.the-variants.{Step, Match}
+use Rattle.outcomes.specs.declared.Outcome.the-variants.{Met}
 use Rattle.bisimulation.specs.Systems.{System, View, Ranks, stays}
 use Rattle.bisimulation.specs.Judge.{meets2a, meets2c, is2a, is2b, is2c}
 use Rattle.bisimulation.specs.Matcher.{smallestEntered}

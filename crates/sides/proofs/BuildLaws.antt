@@ -12,7 +12,8 @@ use Rattle.lists.proofs.FillLaws.{length-tabulate, getD-tabulate, getD-past}
 use Rattle.bisimulation.specs.Systems.{System}
 use Rattle.tables.specs.declared.Head.{Head}
 use Rattle.tables.specs.Table.{layoutOf, labelOf, fromOf, toOf, keyOf}
-use Rattle.sides.specs.Side.{Region, cellAt, relatedPart, silentPart, firstPart, labelPart, fromPart, toPart, keyPart, groupPart, headPart, systemIn, keyAt}
+use Rattle.sides.specs.Side.{Region, cellAt, relatedPart, silentPart, firstPart, labelPart}
+use Rattle.sides.specs.Side.{fromPart, toPart, keyPart, groupPart, headPart, systemIn, keyAt}
 use Rattle.sides.specs.Built.{FilledUpTo, LinkedFrom, SideOf}
 use Rattle.sides.specs.Building.{putAt, apart, sideWords, notEnds, notLinks, Empty, StatesIn, EndsIn, Unlinked, LinksIn}
 use Rattle.sides.proofs.StoreLaws.{put-length, put-same, put-other, put-apart, kept-none, kept-more, fill-apart, fill-none, fill-more}

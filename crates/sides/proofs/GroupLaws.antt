@@ -14,7 +14,7 @@ use Rattle.lists.proofs.BelowLaws.{any-e, any-i, any-none}
 use Rattle.words.specs.Bits.{hasBit}
 use Rattle.words.proofs.BitLaws.{has-empty}
 use Rattle.bisimulation.specs.Systems.{System}
-use Rattle.sides.specs.Side.{cellAt, silentPart, firstPart, nextPart, groupPart, keyAt, silentFrom}
+use Rattle.sides.specs.Side.{cellAt, firstPart, nextPart, groupPart, keyAt, silentFrom}
 use Rattle.sides.specs.Side.{firstStep, nextStep, linkedFrom, stepsIn, groupAlong, enteredBy}
 use Rattle.sides.specs.Built.{NextFrom, LinkedFrom, goesBy}
 use Rattle.sides.proofs.WalkLaws.{next-later, walk-next, walk-end}

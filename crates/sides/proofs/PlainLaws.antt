@@ -24,7 +24,8 @@ side-plain s good a p = record { linked = side-linked s good a; no-keys = λ j. 
 
 module _ {side : List ℕ} (plain : PlainSide side) where
   -- the states that its steps enter
-  pub plain-entered : (s u : ℕ) → hasBit (silentFrom side s) u ≡ anyBelow (systemIn side .steps) (λ k. eqb (systemIn side .from k) s && eqb (systemIn side .to k) u)
+  pub plain-entered : (s u : ℕ) → hasBit (silentFrom side s) u
+      ≡ anyBelow (systemIn side .steps) (λ k. eqb (systemIn side .from k) s && eqb (systemIn side .to k) u)
   plain-entered s u =
       ap (λ (x : ℕ). hasBit x u) (sym (silent-start side s 0 refl))
       ∙ plain .linked .entered-are s 0 u

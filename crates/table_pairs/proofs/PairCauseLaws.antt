@@ -54,6 +54,10 @@ module _ (known : Known) (left right : List ℕ) where
       numbered-append f (knownCauses known 0 left) (knownCauses known 1 right ++ kindCauses left right) (table-numbers f known 0 h left)
       (numbered-append f (knownCauses known 1 right) (kindCauses left right) (table-numbers f known 1 k right) (t, tt))
 
+-- A number other than 30.
+abbrev pub isNot30 : (code file : ℕ) → Bool
+isNot30 code file = not (eqb code 30)
+
 module _ (left right : List ℕ) where
   -- where both kinds are known, the other way round
   pub none-tables : WellFormedTables left right → NoCause (tablesCauses Both left right)
@@ -84,8 +88,5 @@ module _ (left right : List ℕ) where
       (append-first (knownCauses Plain 1 right) (kindCauses left right) a (g .1)))
       (append-first (knownCauses Plain 0 left) (knownCauses Plain 1 right ++ kindCauses left right) a f)
     where
-      isOther : (code file : ℕ) → Bool
-      isOther code file = not (eqb code 30)
-
-      of-table : (file : ℕ) → T (allows isOther file tableNumbers) → (s : List ℕ) → FirstCause (knownCauses Plain file s) a → T (not (eqb (a .code) 30))
-      of-table file h s = numbered-first isOther (knownCauses Plain file s) a (table-numbers isOther Plain file h s)
+      of-table : (file : ℕ) → T (allows isNot30 file tableNumbers) → (s : List ℕ) → FirstCause (knownCauses Plain file s) a → T (not (eqb (a .code) 30))
+      of-table file h s = numbered-first isNot30 (knownCauses Plain file s) a (table-numbers isNot30 Plain file h s)

@@ -12,7 +12,6 @@ use Rattle.answers.specs.Verdicts.{Verdict, goOn, refusedWith, refusalOf, passI
 use Rattle.answers.specs.declared.Answer.{Answer}
 use Rattle.answers.proofs.DecideLaws.{Decides}
 use Rattle.answers.proofs.VerdictLaws.{then-on}
-use Rattle.refusals.specs.Refusals.{tableAnswer}
 use Rattle.refusals.specs.declared.TableRefusal.{TableRefusal}
 use Rattle.tables.specs.declared.Head.{Head}
 use Rattle.tables.specs.Table.{keyed}
@@ -20,6 +19,7 @@ use Rattle.table_reader.specs.declared.Known.{Known}
 use Rattle.table_reader.specs.declared.Known.the-variants.{Both, Plain}
 use Rattle.table_reader.specs.TableReading.{readKnown, readTable}
 use Rattle.table_reader.specs.TableVerdicts.{tableVerdict}
+use Rattle.table_reader.proofs.TableCauseLaws.{on-good}
 use Rattle.table_reader.proofs.PlainLaws.{plain-good, known-good}
 use Rattle.table_reader.specs.declared.TableRead.{TableRead}
 use Rattle.table_reader.specs.declared.TableRead.the-variants as table
@@ -65,13 +65,6 @@ pub record BothRead (left right : List ℕ) (heads : Heads) : Type 0 where
   pub right-good : readTable right ≡ table.Good (heads .right)
   pub one-kind : OneKind left right
 
-table-good : (file : ℕ) {h : Head} (x : TableRead) → tableVerdict file x ≡ goOn h → x ≡ table.Good h
-table-good file (table.Good k) e = ap table.Good (cc e)
-table-good file {h} (table.Refused r) e = absurd (not-on e)
-  where
-    not-on : _≡_ {A = Verdict Head} (refusedWith (tableAnswer r file)) (goOn h) → ⊥
-    not-on q = let z : _≡_ {A = ℕ} 1 0 = cc q in omega arith
-
 passed-test : (b : Bool) (a : Answer) {x : Unit {0}} → passIf b a ≡ goOn x → T b
 passed-test true a e = tt
 passed-test false a {x} e = absurd (not-on e)
@@ -89,8 +82,8 @@ module _ (known : Known) (left right : List ℕ) where
       let q = then-on (tableVerdict 1 (readKnown known right)) (p .2) in
       let r = then-on (passIf (sameKind left right) (sixNumbers 30 1 0)) (q .2) in
       let same : _≡_ {A = Heads} (record { left = p .0; right = q .0 }) h = cc (r .2) in (
-        table-good 0 (readKnown known left) (p .1) ∙ ap (λ (x : Heads). table.Good (x .left)) same,
-        table-good 1 (readKnown known right) (q .1) ∙ ap (λ (x : Heads). table.Good (x .right)) same,
+        on-good 0 (readKnown known left) (p .1) ∙ ap (λ (x : Heads). table.Good (x .left)) same,
+        on-good 1 (readKnown known right) (q .1) ∙ ap (λ (x : Heads). table.Good (x .right)) same,
         kind-decides left right .sound (passed-test (sameKind left right) (sixNumbers 30 1 0) (r .1)),
       )
 

@@ -70,7 +70,7 @@ use Rattle.table_reader.proofs.TestLaws.{
 }
 
 -- a verdict that goes on is that of a header
-on-good : (file : ℕ) (x : TableRead) {h : Head} → tableVerdict file x ≡ goOn h → x ≡ Good h
+pub on-good : (file : ℕ) (x : TableRead) {h : Head} → tableVerdict file x ≡ goOn h → x ≡ Good h
 on-good file (Good k) e = ap Good (cc e)
 on-good file (Refused r) e = absurd (let z : _≡_ {A = ℕ} 0 1 = cc e in omega arith)
 

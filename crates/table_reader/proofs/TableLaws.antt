@@ -20,7 +20,8 @@ use Rattle.words.proofs.BitLaws.{has-add-below, has-empty, from-none}
 use Rattle.bisimulation.specs.Systems.{NoTwice}
 use Rattle.tables.specs.declared.Head.{Head}
 use Rattle.table_reader.specs.declared.TableRead.the-variants.{Good}
-use Rattle.tables.specs.Table.{keyed, formatIn, layoutIn, statesOf, startOf, startsOf, startWord, initialOf, stepsOf, stepsAt, tableLength, labelsPart, stepsPart}
+use Rattle.tables.specs.Table.{keyed, formatIn, layoutIn, statesOf, startOf, startsOf}
+use Rattle.tables.specs.Table.{startWord, initialOf, stepsOf, stepsAt, tableLength, labelsPart, stepsPart}
 use Rattle.table_reader.specs.declared.Known.{Known}
 use Rattle.table_reader.specs.declared.Known.the-variants.{Both}
 use Rattle.table_reader.specs.TableReading.{headOf, readTable}
@@ -88,7 +89,8 @@ module _ (s : List ℕ) {h : Head} (good : readTable s ≡ Good h) where
 
 -- no cause of the steps applies
 pub steps-none : (s : List ℕ) {h : Head} → readTable s ≡ Good h → NoCause (endCauses 0 s) × NoCause (orderCauses 0 s)
-steps-none s e = append-none (endCauses 0 s) (orderCauses 0 s) (append-none (headerCauses Both 0 s) (endCauses 0 s ++ orderCauses 0 s) (good-none Both 0 s e .1) .1)
+steps-none s e =
+    append-none (endCauses 0 s) (orderCauses 0 s) (append-none (headerCauses Both 0 s) (endCauses 0 s ++ orderCauses 0 s) (good-none Both 0 s e .1) .1)
 
 -- a start word has 64 bits
 starts-small : (s : List ℕ) → startsOf s < 2 ^ 64

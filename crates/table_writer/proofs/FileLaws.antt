@@ -13,7 +13,8 @@ use Rattle.lists.proofs.NumberLaws.{length-bytes, bytes-back}
 use Rattle.tables.specs.declared.Format.{Format}
 use Rattle.tables.specs.declared.Format.the-variants.{Version4}
 use mathlib.Core.Bool.{false}
-use Rattle.tables.specs.Table.{layoutOf, formatOf, keyed, versionOf, lastVersion, formatIn, layoutIn, statesOf, startsOf, stepsOf, stepsAt, tableLength, labelsPart, stepsPart}
+use Rattle.tables.specs.Table.{layoutOf, formatOf, keyed, versionOf, lastVersion, formatIn, layoutIn}
+use Rattle.tables.specs.Table.{statesOf, startsOf, stepsOf, stepsAt, tableLength, labelsPart, stepsPart}
 use Rattle.tables.specs.Table.{fromOf, toOf, fromIn, toIn}
 use Rattle.table_reader.specs.TableCauses.{MagicFits}
 use Rattle.table_writer.specs.TableFile.{stepsInOrder, tableHeader, tableFile, fileLength}

@@ -1,11 +1,10 @@
 -- Laws of the two kinds of tables: the layout has keys just where the kind has, and in a table without keys every key is 0, so that every step is silent.
 -- Assumes nothing.
 use Prim.Native.Nat.{ℕ}
-use mathlib.Core.Path.{_≡_, refl, ap, sym, _∙_}
+use mathlib.Core.Path.{_≡_, refl, _∙_}
 use mathlib.Core.Bool.{Bool, true, false, cond}
 use mathlib.Core.List.{List}
 use lib.Dec.{T, eqb}
-use Rattle.bisimulation.specs.Systems.{System}
 use Rattle.tables.specs.declared.Format.{Format}
 use Rattle.tables.specs.declared.Format.the-variants.{Version1, Version2, Version3, Version4}
 use Rattle.tables.specs.Table.{layoutOf, formatOf, keyed, versionOf, formatIn, layoutIn, startWord, keyOf, keyIn}

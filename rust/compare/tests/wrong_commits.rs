@@ -1,10 +1,9 @@
 //! Enquiries and commits that are wrong in one thing each: the comparisons with the oracle find
 //! every one of them, and what is promised of the two together finds those that break it.
 
-use compare::EnquiryAndCommit;
+use compare::{is_found, EnquiryAndCommit};
 use inputs::{save_in, slip_numbers, table_bytes};
 use oracle::{Answer, Form, Kind, Slip};
-use std::panic::{catch_unwind, AssertUnwindSafe};
 
 /// What an enquiry and a commit are given.
 #[derive(Clone, Copy)]
@@ -63,23 +62,9 @@ impl<'a> Files<'a> {
     }
 }
 
-/// Whether a comparison panics with one of these messages.
-fn found(messages: &[&str], compared: impl FnOnce()) -> bool {
-    match catch_unwind(AssertUnwindSafe(compared)) {
-        Ok(()) => false,
-        Err(told) => {
-            let told = told.downcast_ref::<String>();
-            let told = told.expect("it is told what differs");
-            let known = messages.iter().any(|message| told.starts_with(message));
-            assert!(known, "{told}");
-            true
-        }
-    }
-}
-
 /// Whether the comparison with the oracle finds an enquiry out.
 fn enquiry_differs(enquire: impl Fn(Files) -> (Answer, Slip)) -> bool {
-    found(&["the enquiry differs"], || {
+    is_found(&["the enquiry differs"], || {
         compare::enquire(10_000, 81, |left, right, relation| {
             enquire(Files::new(left, right, relation))
         });
@@ -88,7 +73,7 @@ fn enquiry_differs(enquire: impl Fn(Files) -> (Answer, Slip)) -> bool {
 
 /// Whether the comparison with the oracle finds a commit out.
 fn commit_differs(commit: impl Fn(Files, Slip, &mut [u8]) -> Answer) -> bool {
-    found(&["the commit with the slip"], || {
+    is_found(&["the commit with the slip"], || {
         compare::commit(10_000, 82, |left, right, relation, slip, output| {
             commit(Files::new(left, right, relation), slip, output)
         });
@@ -109,7 +94,7 @@ fn promise_is_broken(
         },
         make: oracle::tuned_maker::make,
     };
-    found(&["the enquiry does not", "the commit"], || {
+    is_found(&["the enquiry does not", "the commit"], || {
         both.require_promised(2_000, 83);
     })
 }

@@ -1,10 +1,9 @@
 //! Followers that are wrong in one thing each: the comparison with the oracle finds every
 //! one of them, and demand 3 alone those whose paths do not match.
 
-use compare::{Accepted, Given};
+use compare::{is_found, Accepted, Given};
 use inputs::{save_in, table_bytes, FollowCases};
 use oracle::{Answer, Form, Kind, TableLayout};
-use std::panic::{catch_unwind, AssertUnwindSafe};
 
 /// Such a follower, by what is wrong with it.
 type Wrong<F> = (&'static str, F);
@@ -17,7 +16,7 @@ fn right(given: &Given, states: &mut [u8], blocks: &mut [u8]) -> Answer {
 
 /// Whether the comparison with the oracle finds a follower out.
 fn differs(follow: impl Fn(&Given, &mut [u8], &mut [u8]) -> Answer) -> bool {
-    let compared = catch_unwind(AssertUnwindSafe(|| {
+    is_found(&["the follower differs"], || {
         compare::follow(
             4_000,
             61,
@@ -33,17 +32,7 @@ fn differs(follow: impl Fn(&Given, &mut [u8], &mut [u8]) -> Answer) -> bool {
                 follow(&given, states, blocks)
             },
         );
-    }));
-    match compared {
-        Ok(_) => false,
-        Err(told) => {
-            let told = told
-                .downcast_ref::<String>()
-                .expect("it is told what differs");
-            assert!(told.starts_with("the follower differs"), "{told}");
-            true
-        }
-    }
+    })
 }
 
 /// What demand 3 alone says of the first run that this follower does not match.

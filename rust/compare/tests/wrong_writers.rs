@@ -1,8 +1,8 @@
 //! Writers that are wrong in one thing each: the comparison with the oracle finds every one of
 //! them.
 
+use compare::is_found;
 use oracle::Answer;
-use std::panic::{catch_unwind, AssertUnwindSafe};
 
 /// What a writer is given, and the length of its output.
 struct Given<'a> {
@@ -57,7 +57,7 @@ impl Given<'_> {
 
 /// Whether the comparison with the oracle finds a writer out.
 fn differs(write: impl Fn(&Given, &mut [u8]) -> Answer) -> bool {
-    let compared = catch_unwind(AssertUnwindSafe(|| {
+    is_found(&["the writer differs"], || {
         compare::write(10_000, 71, |marks, starts, steps, output| {
             let given = Given {
                 marks,
@@ -67,16 +67,7 @@ fn differs(write: impl Fn(&Given, &mut [u8]) -> Answer) -> bool {
             };
             write(&given, output)
         });
-    }));
-    match compared {
-        Ok(_) => false,
-        Err(told) => {
-            let told = told.downcast_ref::<String>();
-            let told = told.expect("it is told what differs");
-            assert!(told.starts_with("the writer differs"), "{told}");
-            true
-        }
-    }
+    })
 }
 
 /// A number, and its a where it applies.

@@ -18,7 +18,8 @@ use Rattle.checker.proofs.judge_known.Tie as tie
 
 -- the tables are read
 both : (c : tie.After-tables)
-    → let a = c .before .before .before .before .before .before .args in tablesVerdict (a .known) (now (a .left)) (now (a .right)) ≡ goOn (c .tables .given .0 .0)
+    → let a = c .before .before .before .before .before .before .args in
+    tablesVerdict (a .known) (now (a .left)) (now (a .right)) ≡ goOn (c .tables .given .0 .0)
 both c = was-good _ _ (sym (c .before .before .read-tables .ensures) ∙ c .tables .given .1)
 
 -- the certificate is read with the sizes that the bytes of the tables give
@@ -63,7 +64,8 @@ returns : tie.Need-returns
 returns c =
     let a = c .before .before .before .before .before .before .before .args in
     c .tables-answer .ensures
-    ∙ tables-refused (a .known) (now (a .left)) (now (a .right)) (now (a .certificate)) (c .before .before .before .read-tables .ensures) (c .before .enum-told .given .1)
+    ∙ tables-refused (a .known) (now (a .left)) (now (a .right)) (now (a .certificate)) (c .before .before .before .read-tables .ensures)
+    (c .before .enum-told .given .1)
 
 of-requires : tie.Need-of-requires
 of-requires c κs = search needs
@@ -84,7 +86,8 @@ returns-2 : tie.Need-returns-2
 returns-2 c =
     let a = c .before .before .before .before .before .before .before .before .before .before .before .before .args in
     c .certificate-answer .ensures
-    ∙ certificate-refused (a .known) (now (a .left)) (now (a .right)) (now (a .certificate)) (both (c .before .before .before .before .before .before)) (read-is (c .before .before .before)) (c .before .enum-told3 .given .1)
+    ∙ certificate-refused (a .known) (now (a .left)) (now (a .right)) (now (a .certificate)) (both (c .before .before .before .before .before .before))
+    (read-is (c .before .before .before)) (c .before .enum-told3 .given .1)
 
 judge-read-requires : tie.Need-judge-read-requires
 judge-read-requires c κs = all-good c
@@ -93,7 +96,8 @@ returns-3 : tie.Need-returns-3
 returns-3 c =
     let a = c .before .before .before .before .before .before .before .before .before .before .before .before .args in
     c .judge-read .ensures
-    ∙ sym (all-read (a .known) (now (a .left)) (now (a .right)) (now (a .certificate)) (both (c .before .before .before .before .before .before)) (all-good (c .before) .certificate-good))
+    ∙ sym (all-read (a .known) (now (a .left)) (now (a .right)) (now (a .certificate)) (both (c .before .before .before .before .before .before))
+    (all-good (c .before) .certificate-good))
 
 pub judge-known-spec : {M : Type 1} → statement M
 judge-known-spec =

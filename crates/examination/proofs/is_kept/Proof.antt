@@ -49,7 +49,8 @@ returns-2 c =
     let related = c .before .related .ensures .0 ∙ ap (relatedTo (now (a .ours))) (c .before .before .to .ensures) in
     kept-far (viewIn (now (a .ours)) (now (a .theirs))) (now (a .distances)) (a .j) (a .t) (test .before .before .byte .ensures .0)
     (test .before .states .ensures .0) (test .if1 .left)
-    (sym (rw (eq-eqb (keyAt (now (a .ours)) (a .j)) 0 (sym (key .key .ensures) ∙ c .before .before .before .if2 .taken)) (sym (c .has .ensures ∙ ap (λ (w : ℕ). hasBit w (a .t)) related))))
+    (sym (rw (eq-eqb (keyAt (now (a .ours)) (a .j)) 0 (sym (key .key .ensures) ∙ c .before .before .before .if2 .taken))
+    (sym (c .has .ensures ∙ ap (λ (w : ℕ). hasBit w (a .t)) related))))
 
 returns-3 : tie.Need-returns-3
 returns-3 c =

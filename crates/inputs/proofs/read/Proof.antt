@@ -17,7 +17,8 @@ use Rattle.inputs.proofs.read.Tie as tie
 
 -- the tables are read
 both : (c : tie.After-tables)
-    → tablesVerdict Both (now (c .before .before .before .before .before .before .args .left)) (now (c .before .before .before .before .before .before .args .right)) ≡ goOn (c .tables .given .0 .0)
+    → tablesVerdict Both (now (c .before .before .before .before .before .before .args .left))
+    (now (c .before .before .before .before .before .before .args .right)) ≡ goOn (c .tables .given .0 .0)
 both c = was-good _ _ (sym (c .before .before .read-tables .ensures) ∙ c .tables .given .1)
 
 -- the relation is read with the sizes that the bytes of the tables give
@@ -63,12 +64,14 @@ returns-2 : tie.Need-returns-2
 returns-2 c =
     let a = c .before .before .before .before .before .before .before .before .before .before .before .before .args in
     ap Refused (c .relation-answer .ensures)
-    ∙ relation-refuses (now (a .left)) (now (a .right)) (now (a .relation)) (both (c .before .before .before .before .before .before)) (read-is (c .before .before .before)) (c .before .enum-told3 .given .1)
+    ∙ relation-refuses (now (a .left)) (now (a .right)) (now (a .relation)) (both (c .before .before .before .before .before .before))
+    (read-is (c .before .before .before)) (c .before .enum-told3 .given .1)
 
 returns-3 : tie.Need-returns-3
 returns-3 c =
     let a = c .before .before .before .before .before .before .before .before .before .before .before .args in
-    all-read (now (a .left)) (now (a .right)) (now (a .relation)) (both (c .before .before .before .before .before)) (sym (read-is (c .before .before)) ∙ c .enum-told2 .given .1)
+    all-read (now (a .left)) (now (a .right)) (now (a .relation)) (both (c .before .before .before .before .before))
+    (sym (read-is (c .before .before)) ∙ c .enum-told2 .given .1)
 
 pub read-spec : {M : Type 1} → statement M
 read-spec =

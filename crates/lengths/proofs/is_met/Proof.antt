@@ -2,7 +2,6 @@
 use Prim.Native.Nat.{ℕ}
 use mathlib.Core.Path.{sym, ap, _∙_}
 use lib.Dec.{eqb}
-use denote.Ref.{now}
 use Rattle.words.specs.Bits.{hasBit}
 use Rattle.lengths.specs.Relaxing.{metBy}
 use borrow.Author.Needs.{needs}
@@ -30,7 +29,8 @@ returns c =
     let a = c .before .before .before .before .before .before .before .args in
     ap (λ (k : ℕ). eqb k (a .by)) (c .key .ensures)
     ∙ sym (simp (
-      sym (ap (hasBit (a .leaving .0)) (c .before .before .before .before .before .before .from .ensures)) ∙ sym (c .before .before .before .before .before .has .ensures) ∙ c .before .before .before .before .if1 .taken,
+      sym (ap (hasBit (a .leaving .0)) (c .before .before .before .before .before .before .from .ensures))
+          ∙ sym (c .before .before .before .before .before .has .ensures) ∙ c .before .before .before .before .if1 .taken,
       sym (ap (hasBit (a .entering .0)) (c .before .before .before .to .ensures)) ∙ sym (c .before .before .has2 .ensures) ∙ c .before .if2 .taken,
     ))
 
@@ -39,7 +39,8 @@ unfolding metBy
 returns-2 c =
     let a = c .before .before .before .before .before .before .args in
     simp (
-      sym (ap (hasBit (a .leaving .0)) (c .before .before .before .before .before .from .ensures)) ∙ sym (c .before .before .before .before .has .ensures) ∙ c .before .before .before .if1 .taken,
+      sym (ap (hasBit (a .leaving .0)) (c .before .before .before .before .before .from .ensures)) ∙ sym (c .before .before .before .before .has .ensures)
+          ∙ c .before .before .before .if1 .taken,
       sym (ap (hasBit (a .entering .0)) (c .before .before .to .ensures)) ∙ sym (c .before .has2 .ensures) ∙ c .if2 .left,
     )
 

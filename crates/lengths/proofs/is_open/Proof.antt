@@ -1,5 +1,5 @@
--- `lengths::is_open` meets its contract: a step from a state of 64 or more, or to a state that is not related to t, is not open, nor is one that the table has as matched; any other is open where
--- it is silent. Assumes nothing.
+-- `lengths::is_open` meets its contract: a step from a state of 64 or more, or to a state that is not related to t, is not open, nor is one that the table
+-- has as matched; any other is open where it is silent. Assumes nothing.
 use Prim.Native.Nat.{ℕ, _<_}
 use mathlib.Core.Path.{_≡_, ap, _∙_}
 use mathlib.Core.List.{List}
@@ -58,7 +58,8 @@ module _ (c : tie.After-has) where
   has-is : c .has .result ≡ hasBit (relatedTo ours (systemIn ours .to step)) (c .before .before .before .before .before .before .before .args .t)
   has-is =
       c .has .ensures
-      ∙ ap (λ (w : ℕ). hasBit w (c .before .before .before .before .before .before .before .args .t)) (c .before .related .ensures .0 ∙ ap (relatedTo ours) (c .before .before .before .before .to .ensures))
+      ∙ ap (λ (w : ℕ). hasBit w (c .before .before .before .before .before .before .before .args .t))
+      (c .before .related .ensures .0 ∙ ap (relatedTo ours) (c .before .before .before .before .to .ensures))
 
 returns-2 : tie.Need-returns-2
 returns-2 c =

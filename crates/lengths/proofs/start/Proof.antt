@@ -1,6 +1,6 @@
 -- `lengths::start` meets its contract: after e steps the row is 0 where one of them meets the obligation, and the number of states elsewhere. Assumes nothing.
-use Prim.Native.Nat.{ℕ, _≤_, _<_, _-_, _^_}
-use mathlib.Core.Path.{_≡_, refl, sym, ap, _∙_}
+use Prim.Native.Nat.{_≤_, _<_, _-_, _^_}
+use mathlib.Core.Path.{_≡_, refl, ap, _∙_}
 use mathlib.Core.Logic.{⊎-elim}
 use native.Mathlib.Omega.{arith}
 use lib.ListN.{replicate, length-replicate, getD-replicate}
@@ -14,7 +14,8 @@ use Rattle.lengths.proofs.start.Statement.{statement}
 use Rattle.lengths.proofs.start.Tie as tie
 
 abbrev Inv-loop : tie.InvT-loop
-Inv-loop ours theirs j from-states to-states by n m row₀ matched₀ e₀ row matched e = Bounds (viewIn ours theirs) j e (row .at) × (e ≤ m) × (m ≡ systemIn theirs .steps)
+Inv-loop ours theirs j from-states to-states by n m row₀ matched₀ e₀ row matched e =
+    Bounds (viewIn ours theirs) j e (row .at) × (e ≤ m) × (m ≡ systemIn theirs .steps)
     × (from-states .0 ≡ relatedTo ours (systemIn ours .from j)) × (to-states .0 ≡ relatedTo ours (systemIn ours .to j)) × (from-states .0 < 2 ^ 64)
     × (by ≡ keyAt ours j) × Zeroed (matched .0) (row .at)
 
@@ -56,7 +57,8 @@ loop-holds c =
           (λ t h. getD-replicate 64 t (states .result) 0 h ∙ states .ensures .0),
       omega arith,
       c .before .step-count .ensures .0,
-      c .before .before .before .before .before .before .related .ensures .0 ∙ ap (relatedTo (now (a .ours))) (c .before .before .before .before .before .before .before .from .ensures),
+      c .before .before .before .before .before .before .related .ensures .0
+          ∙ ap (relatedTo (now (a .ours))) (c .before .before .before .before .before .before .before .from .ensures),
       c .before .before .before .before .related2 .ensures .0 ∙ ap (relatedTo (now (a .ours))) (c .before .before .before .before .before .to .ensures),
       c .before .before .before .before .before .before .related .ensures .1,
       c .before .before .before .key .ensures,

@@ -4,7 +4,6 @@ use Rattle.words.proofs.BitLaws.{has-lt}
 use Prim.Native.Nat.{_<_, _+_, _^_}
 use mathlib.Core.Path.{_≡_}
 use mathlib.Core.Bool.{false, cond}
-use denote.Ref.{now}
 use Rattle.sides.specs.Side.{relatedTo, systemIn}
 use Rattle.sides.specs.Views.{viewIn}
 use Rattle.lengths.specs.Relaxing.{Bounds, Settled, total}

@@ -21,7 +21,8 @@ returns-2 : tie.Need-returns-2
 returns-2 c =
     let a = c .before .before .before .before .args in
     c .outcome-by-ranks .ensures
-    ∙ by-ranks (now (a .ours)) (now (a .theirs)) (now (a .certificate)) (a .run) (a .j) (a .t) (c .before .before .serving-state .ensures) (c .before .if1 .left)
+    ∙ by-ranks (now (a .ours)) (now (a .theirs)) (now (a .certificate)) (a .run) (a .j) (a .t) (c .before .before .serving-state .ensures)
+    (c .before .if1 .left)
 
 pub obligation-at-spec : {M : Type 1} → statement M
 obligation-at-spec =

@@ -1,6 +1,5 @@
 -- `obligations::outcome_by_ranks` meets its contract: 2b is looked at first, for a step that stays, and then 2c. Assumes nothing.
-use Prim.Native.Nat.{ℕ}
-use mathlib.Core.Path.{_≡_, ap, ap₂, _∙_}
+use mathlib.Core.Path.{_≡_, ap₂, _∙_}
 use mathlib.Core.Bool.{false}
 use mathlib.Core.Logic.{⊎-elim}
 use lib.Bits.{bitAnd}
@@ -29,7 +28,8 @@ returns : tie.Need-returns
 returns c =
     let a = c .before .before .before .before .before .before .before .before .args in
     let to = c .before .before .before .before .before in
-    by-stutter (now (a .ours)) (now (a .theirs)) (now (a .certificate)) (a .run) (a .j) (a .t) (to .before .from .ensures) (to .to .ensures) (c .before .before .before .before .stays .ensures) (c .before .before .before .if1 .taken)
+    by-stutter (now (a .ours)) (now (a .theirs)) (now (a .certificate)) (a .run) (a .j) (a .t) (to .before .from .ensures) (to .to .ensures)
+    (c .before .before .before .before .stays .ensures) (c .before .before .before .if1 .taken)
     (c .before .before .stutter-at .ensures) (c .before .stutter-at2 .ensures) (c .if2 .taken)
 
 silent-requires : tie.Need-silent-requires
@@ -60,7 +60,9 @@ returns-2 c =
     (λ w. stutters-not (now (a .ours)) (now (a .theirs)) (now (a .certificate)) (a .run) (a .j) (a .t) es eu ey (w .left))
     (c .before .before .before .before .before .if1 .came) in
     c .without-stutter .ensures
-    ∙ by-match (now (a .ours)) (now (a .theirs)) (now (a .certificate)) (a .run) (a .j) (a .t) es eu ey not-met (c .before .before .intersect .ensures ∙ ap₂ bitAnd (c .before .before .before .before .silent .ensures .0) (c .before .before .before .related .ensures .0))
+    ∙ by-match (now (a .ours)) (now (a .theirs)) (now (a .certificate)) (a .run) (a .j) (a .t) es eu ey not-met
+    (c .before .before .intersect .ensures ∙ ap₂ bitAnd (c .before .before .before .before .silent .ensures .0)
+    (c .before .before .before .related .ensures .0))
     (c .before .match-row .ensures)
 
 pub outcome-by-ranks-spec : {M : Type 1} → statement M

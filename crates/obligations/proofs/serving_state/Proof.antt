@@ -1,5 +1,4 @@
 -- `obligations::serving_state` meets its contract: the words are read off the sides. Assumes nothing.
-use Prim.Native.Nat.{ℕ}
 use mathlib.Core.Path.{ap, ap₂, _∙_}
 use lib.Bits.{bitAnd}
 use denote.Ref.{now}

@@ -37,12 +37,20 @@ first-requires c κs = search needs
 returns-3 : tie.Need-returns-3
 unfolding withoutStutter
 returns-3 c =
-    sym (rw (match-fails (c .before .before .before), c .before .before .if2 .left, ap (λ (x : ℕ). ltb x 64) (sym (c .before .first .ensures)) ∙ lt-ltb _ 64 (c .if3 .taken)))
+    sym (rw (
+      match-fails (c .before .before .before),
+      c .before .before .if2 .left,
+      ap (λ (x : ℕ). ltb x 64) (sym (c .before .first .ensures)) ∙ lt-ltb _ 64 (c .if3 .taken),
+    ))
 
 returns-4 : tie.Need-returns-4
 unfolding withoutStutter
 returns-4 c =
-    sym (rw (match-fails (c .before .before .before), c .before .before .if2 .left, ap (λ (x : ℕ). ltb x 64) (sym (c .before .first .ensures)) ∙ le-ltb _ 64 (c .if3 .left)))
+    sym (rw (
+      match-fails (c .before .before .before),
+      c .before .before .if2 .left,
+      ap (λ (x : ℕ). ltb x 64) (sym (c .before .first .ensures)) ∙ le-ltb _ 64 (c .if3 .left),
+    ))
 
 pub without-stutter-spec : {M : Type 1} → statement M
 without-stutter-spec =

@@ -40,7 +40,8 @@ cell-requires c κs = search needs
 returns-2 : tie.Need-returns-2 Inv-loop μ-loop
 returns-2 c = let l = c .before .before .before .before .loop in
     let a = c .before .before .before .before .before .before .before .args in (
-      c .cell .ensures .0 ∙ sym (group-hit (now (a .side)) (a .by) (l .j) (omega arith) (sym (c .before .before .key .ensures) ∙ c .before .if2 .taken)) ∙ l .inv,
+      c .cell .ensures .0 ∙ sym (group-hit (now (a .side)) (a .by) (l .j) (omega arith) (sym (c .before .before .key .ensures) ∙ c .before .if2 .taken))
+          ∙ l .inv,
       c .cell .ensures .1,
     )
 
@@ -54,7 +55,8 @@ returns-3 : tie.Need-returns-3 Inv-loop μ-loop
 returns-3 c = let l = c .before .before .before .before .before .before .loop in
     let a = c .before .before .before .before .before .before .before .before .before .args in
     let none = next-none (now (a .side)) (l .j) (c .before .before .next .ensures) (c .before .if3 .taken) in
-    let miss = group-miss (now (a .side)) (a .by) (l .j) (omega arith) (λ e. c .before .before .before .if2 .left (c .before .before .before .before .key .ensures ∙ e)) in
+    let miss = group-miss (now (a .side)) (a .by) (l .j) (omega arith)
+    (λ e. c .before .before .before .if2 .left (c .before .before .before .before .key .ensures ∙ e)) in
     (c .empty .ensures ∙ sym (group-end (now (a .side)) (a .by) _ (omega (arith, none))) ∙ sym miss ∙ l .inv, rw (c .empty .ensures) (omega arith))
 
 loop-less : tie.Need-loop-less Inv-loop μ-loop

@@ -22,7 +22,8 @@ abbrev μ-loop : tie.MeasureT-loop
 μ-loop head labels steps words format side₀ s₀ side s = 64 - s
 
 abbrev Inv-loop2 : tie.InvT-loop2
-Inv-loop2 labels steps words format side₀ s m j₀ side j = EndsIn (fromOf format steps) (toOf format steps) (keyOf format steps) side₀ j side × (j ≤ m) × (m ≤ 256)
+Inv-loop2 labels steps words format side₀ s m j₀ side j =
+    EndsIn (fromOf format steps) (toOf format steps) (keyOf format steps) side₀ j side × (j ≤ m) × (m ≤ 256)
 
 abbrev μ-loop2 : tie.MeasureT-loop2
 μ-loop2 labels steps words format side₀ s m j₀ side j = m - j

@@ -1,5 +1,5 @@
 -- `sweeps::sweep` meets its contract: the walk along the links meets each step from the place's own state. Assumes nothing.
-use Prim.Native.Nat.{ℕ, _-_}
+use Prim.Native.Nat.{_-_}
 use mathlib.Core.Path.{sym, _∙_}
 use native.Mathlib.Omega.{arith}
 use denote.Ref.{now}
@@ -39,7 +39,8 @@ returns c =
     let a = c .before .before .before .before .before .before .before .args in
     let l = c .before .before .before .before .loop in
     c .enum-told .given .1
-    ∙ sym (step-stop (now (a .ours)) (now (a .theirs)) (now (a .certificate)) (a .run) (a .place) (a .tally) (l .met) (l .j) (l .inv) (omega arith) (sym (c .before .before .check-step .ensures) ∙ c .enum-told .given .1))
+    ∙ sym (step-stop (now (a .ours)) (now (a .theirs)) (now (a .certificate)) (a .run) (a .place) (a .tally) (l .met) (l .j) (l .inv) (omega arith)
+    (sym (c .before .before .check-step .ensures) ∙ c .enum-told .given .1))
 
 next-requires : tie.Need-next-requires Inv-loop μ-loop
 next-requires c κs = search needs
@@ -49,7 +50,8 @@ returns-2 c =
     let a = c .before .before .before .before .before .before .before .before .before .before .args in
     let l = c .before .before .before .before .before .before .before .loop in
     let on = sym (c .before .before .before .before .before .check-step .ensures) ∙ c .before .before .before .end .given .1 in
-    let w = step-on (now (a .ours)) (now (a .theirs)) (now (a .certificate)) (a .run) (a .place) (a .tally) (l .met) (l .j) (l .inv) (omega arith) on (next-none (now (a .ours)) (l .j) (c .before .next .ensures) (c .if1 .taken)) in
+    let w = step-on (now (a .ours)) (now (a .theirs)) (now (a .certificate)) (a .run) (a .place) (a .tally) (l .met) (l .j) (l .inv) (omega arith) on
+    (next-none (now (a .ours)) (l .j) (c .before .next .ensures) (c .if1 .taken)) in
     sym (sweep-end (now (a .ours)) (now (a .theirs)) (now (a .certificate)) (a .run) (a .place) (a .tally) _ 256 w (omega arith))
 
 loop-less : tie.Need-loop-less Inv-loop μ-loop
@@ -60,7 +62,8 @@ loop-again c =
     let a = c .before .before .before .before .before .before .before .before .before .before .args in
     let l = c .before .before .before .before .before .before .before .loop in
     let on = sym (c .before .before .before .before .before .check-step .ensures) ∙ c .before .before .before .end .given .1 in
-    step-on (now (a .ours)) (now (a .theirs)) (now (a .certificate)) (a .run) (a .place) (a .tally) (l .met) (l .j) (l .inv) (omega arith) on (next-later (now (a .ours)) (l .j) (c .before .next .ensures) (c .if1 .left))
+    step-on (now (a .ours)) (now (a .theirs)) (now (a .certificate)) (a .run) (a .place) (a .tally) (l .met) (l .j) (l .inv) (omega arith) on
+    (next-later (now (a .ours)) (l .j) (c .before .next .ensures) (c .if1 .left))
 
 returns-3 : tie.Need-returns-3 Inv-loop μ-loop
 returns-3 c =

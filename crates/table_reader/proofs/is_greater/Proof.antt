@@ -1,4 +1,5 @@
--- `table_reader::is_greater` meets its contract: where the two leave the same state the states that they enter decide, and where these are the same their keys. Assumes nothing.
+-- `table_reader::is_greater` meets its contract: where the two leave the same state the states that they enter decide, and where these are the same their
+-- keys. Assumes nothing.
 use Prim.Native.Nat.{ℕ}
 use mathlib.Core.Path.{_≡_, sym}
 use mathlib.Core.Bool.{or-false}

@@ -48,7 +48,8 @@ returns-2 : tie.Need-returns-2
 returns-2 c = let told = c .before in
     let a = told .before .before .before .before .before .args in
     c .magic-fits2 .ensures
-    ∙ second-asked (now (a .s)) (a .known) (sym (told .before .before .before .magic-fits .ensures) ∙ told .before .before .if1 .left) (told .enum-told .given .1)
+    ∙ second-asked (now (a .s)) (a .known) (sym (told .before .before .before .magic-fits .ensures) ∙ told .before .before .if1 .left)
+    (told .enum-told .given .1)
 
 returns-3 : tie.Need-returns-3
 returns-3 c =

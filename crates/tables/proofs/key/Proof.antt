@@ -1,13 +1,13 @@
 -- `tables::key` meets its contract: without keys and past the last step stands 0, and below it the index in bytes fits. Assumes nothing.
 use Prim.Native.Nat.{_+_, _*_}
-use mathlib.Core.Path.{_≡_, sym, ap, _∙_}
+use mathlib.Core.Path.{sym, ap, _∙_}
 use native.Mathlib.Omega.{arith}
 use lib.ListN.{length}
 use denote.Ref.{now}
 use Rattle.lists.specs.Numbers.{byteAt}
 use Rattle.lists.proofs.FillLaws.{getD-past}
 use Rattle.tables.specs.declared.Layout.{Layout}
-use Rattle.tables.specs.Table.{layoutOf, keyOf}
+use Rattle.tables.specs.Table.{keyOf}
 use Rattle.tables.proofs.LayoutLaws.{layout-fits, third-past, third-fits}
 use borrow.Author.Needs.{needs}
 use Rattle.tables.proofs.key.Statement.{statement}

@@ -1,7 +1,7 @@
 //! Wrong about the keys of a clause, of a matched list or of a chain.
 
+use compare::is_found;
 use oracle::{read_table, Answer, Layout, Step, Table};
-use std::panic::{catch_unwind, AssertUnwindSafe};
 
 /// How a judge and a maker go about keys. Most of these say whether a step with a key serves,
 /// from the key of the duty and that of the step.
@@ -355,21 +355,8 @@ const WRONG_MAKERS: [Wrong; 12] = [
     }),
 ];
 
-/// Whether a comparison panics with such a message.
-fn found(message: &str, compared: impl FnOnce()) -> bool {
-    match catch_unwind(AssertUnwindSafe(compared)) {
-        Ok(()) => false,
-        Err(told) => {
-            let told = told.downcast_ref::<String>();
-            let told = told.expect("it is told what differs");
-            assert!(told.starts_with(message), "{told}");
-            true
-        }
-    }
-}
-
 fn judge_differs(habits: Habits) -> bool {
-    found("the judge differs", || {
+    is_found(&["the judge differs"], || {
         compare::judge(20_000, 73, |left, right, certificate| {
             habits.judge(left, right, certificate)
         });
@@ -377,7 +364,7 @@ fn judge_differs(habits: Habits) -> bool {
 }
 
 fn maker_differs(habits: Habits) -> bool {
-    found("the maker differs", || {
+    is_found(&["the maker differs"], || {
         compare::make(10_000, 74, |left, right, relation, output| {
             habits.make(left, right, relation, output)
         });

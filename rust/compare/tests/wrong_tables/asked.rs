@@ -1,7 +1,7 @@
 //! A judge and a maker that are wrong in one thing, and whether the comparisons find them.
 
+use compare::is_found;
 use oracle::Answer;
-use std::panic::{catch_unwind, AssertUnwindSafe};
 
 /// What a wrong function is given: two tables, the rows of the relation, the right answer,
 /// and the right answers to other tables.
@@ -53,21 +53,8 @@ impl Asked<'_> {
     }
 }
 
-/// Whether a comparison panics with such a message.
-fn found(message: &str, compared: impl FnOnce()) -> bool {
-    match catch_unwind(AssertUnwindSafe(compared)) {
-        Ok(()) => false,
-        Err(told) => {
-            let told = told.downcast_ref::<String>();
-            let told = told.expect("it is told what differs");
-            assert!(told.starts_with(message), "{told}");
-            true
-        }
-    }
-}
-
 fn judge_differs(wrong: fn(&mut Asked) -> Answer) -> bool {
-    found("the judge differs", || {
+    is_found(&["the judge differs"], || {
         compare::judge(20_000, 71, |left, right, certificate| {
             wrong(&mut Asked {
                 tables: [left, right],
@@ -80,7 +67,7 @@ fn judge_differs(wrong: fn(&mut Asked) -> Answer) -> bool {
 }
 
 fn maker_differs(wrong: fn(&mut Asked) -> Answer) -> bool {
-    found("the maker differs", || {
+    is_found(&["the maker differs"], || {
         compare::make(20_000, 72, |left, right, relation, output| {
             let answer = oracle::tuned_maker::make(left, right, relation, output);
             wrong(&mut Asked {
