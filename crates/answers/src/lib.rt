@@ -1,4 +1,5 @@
 // The answer of every function of the software: six numbers, and how causes and verdicts lead to them.
+#![tactic(auto)]
 
 // The six numbers of an answer: code, file, a, b, c, d.
 #[derive(Drop)]

@@ -1,4 +1,6 @@
 // The readers of certificates and of relations: for every byte string its sizes, or the one refusal whose condition and place in the order fit.
+#![tactic(auto)]
+
 ghost use Rattle.std.specs.Prelude.{◌≡◌};
 ghost use Rattle.lists.specs.Below.{first_below};
 ghost use Rattle.certificate_reader.specs.CertificateReading.{certificate_sizes_fit, wide_row, read_header, read_certificate, read_relation};

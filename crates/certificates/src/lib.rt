@@ -1,4 +1,6 @@
 // Certificates: the sizes of two tables, where the rows and the runs of ranks lie, and reading a row.
+#![tactic(auto)]
+
 ghost use Rattle.std.specs.Prelude.{◌≡◌};
 ghost use Rattle.certificates.specs.Layout.{sizes_for, certificate_length, runs_of, rows_part, row_of};
 

@@ -1,4 +1,6 @@
 // The two sides of two tables and a certificate, for what comes after the judge: it makes them again from the same bytes.
+#![tactic(auto)]
+
 ghost use Rattle.certified_sides.specs.Made.{CertifiedSides};
 
 use certificates::{Sizes, rows};

@@ -1,4 +1,6 @@
 // The lengths of stuttering chains of one side, by a table of match distances: by recursion on the most steps that a chain may have.
+#![tactic(auto)]
+
 ghost use Rattle.std.specs.Prelude.{◌≡◌, ℕ, ◌<◌, get_or};
 ghost use Rattle.lists.specs.Lists.{tabulate};
 ghost use Rattle.bisimulation.specs.Maker.{chain_along};

@@ -1,4 +1,6 @@
 // The judge: six numbers for any three byte strings. What it looks at stands in two sides, which are made once a call.
+#![tactic(auto)]
+
 ghost use Rattle.std.specs.Prelude.{◌≡◌, get_or};
 ghost use Rattle.lists.specs.Below.{sum_below};
 ghost use Rattle.words.specs.Bits.{count_bits};

@@ -1,5 +1,7 @@
 // The maker's examination of a relation: the starts, the pairs with their labels and steps, and the chains. It reads two sides and the tables of their
 // lengths, and writes nothing.
+#![tactic(auto)]
+
 ghost use Rattle.std.specs.Prelude.{◌≡◌, ◌<◌};
 ghost use Rattle.lists.specs.Below.{first_below};
 ghost use Rattle.answers.specs.Verdicts.{first_in, as_checked};

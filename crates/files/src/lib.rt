@@ -1,4 +1,6 @@
 // The file of a certificate, written from given ranks: the header, the rows, and the four runs of ranks.
+#![tactic(auto)]
+
 ghost use Rattle.std.specs.Prelude.{◌≡◌, ◌*◌, ◌≤◌, ◌<◌, length};
 ghost use Rattle.lists.specs.Lists.{tabulate, grid, put_front};
 ghost use Rattle.certificates.specs.Layout.{certificate_header_length, row_length, certificate_length};

@@ -1,5 +1,7 @@
 // Two tables and a relation between them, read together: the headers of the two tables, or the answer that refuses one of the three, or the two tables for
 // being of different kinds.
+#![tactic(auto)]
+
 ghost use Rattle.std.specs.Prelude.{◌≡◌};
 ghost use Rattle.answers.specs.Verdicts.{refusal_of};
 ghost use Rattle.certificate_reader.specs.CertificateVerdicts.{relation_verdict};

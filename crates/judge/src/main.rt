@@ -1,4 +1,6 @@
 // The program: reads the two tables and the certificate from standard input, judges, and prints the six numbers.
+#![tactic(auto)]
+
 ghost use Rattle.std.specs.Prelude.{◌≡◌, List, ℕ};
 ghost use Rattle.pieces.specs.Pieces.{piece_of, ReadOut};
 ghost use Rattle.checker.specs.Judge.{judge_answer};

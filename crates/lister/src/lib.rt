@@ -1,5 +1,7 @@
 // The listing on bytes: where the judge accepts, one line for each obligation, with the clause that meets it and the state that answers; else the judge's
 // six numbers. The walk follows the judging order, and every line is put into the one output that is lent.
+#![tactic(auto)]
+
 ghost use Rattle.std.specs.Prelude.{◌≡◌, ◌+◌, ◌≤◌, length};
 ghost use Rattle.texts.specs.Texts.{most_text};
 ghost use Rattle.texts.specs.Wrote.{Wrote};

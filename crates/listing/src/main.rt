@@ -1,5 +1,7 @@
 // The listing program: reads the two tables and the certificate from standard input, judges, and prints how each obligation is met; on a refusal it prints
 // the six numbers.
+#![tactic(auto)]
+
 ghost use Rattle.std.specs.Prelude.{◌≡◌, List, ℕ, ◌≤◌, length, take};
 ghost use Rattle.pieces.specs.Pieces.{piece_of, ReadOut};
 ghost use Rattle.lister.specs.Listing.{printed};

@@ -1,4 +1,6 @@
 // Total reads of bytes, of numbers in bytes and of parts, for every slice and every index; and a front or a number written over a slice.
+#![tactic(auto)]
+
 ghost use Rattle.std.specs.Prelude.{◌≡◌, ◌+◌, ◌^◌, ◌≤◌, ◌<◌, min};
 ghost use Rattle.lists.specs.Lists.{part, put_front, put_at};
 ghost use Rattle.lists.specs.Numbers.{byte_at, big_endian, big_bytes};

@@ -1,5 +1,7 @@
 // The second finder of match distances, by sets (document 02, Ask 10): for each of our steps the set of their states at which it is matched grows by rounds, and
 // a state's distance is the round in which it came in.
+#![tactic(auto)]
+
 ghost use Rattle.std.specs.Prelude.{◌≡◌, ℕ, ◌^◌, ◌<◌, min, length, get_or};
 ghost use Rattle.lists.specs.Lists.{tabulate};
 ghost use Rattle.bisimulation.specs.Maker.{distance};

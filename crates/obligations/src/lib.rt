@@ -1,4 +1,6 @@
 // One obligation on two sides: each set of states that its outcome is told from is one read, and so are its ranks in a certificate. It knows no table.
+#![tactic(auto)]
+
 ghost use Rattle.std.specs.Prelude.{◌≡◌, ◌&&◌};
 ghost use Rattle.words.specs.Bits.{has_bit};
 ghost use Rattle.sides.specs.Side.{system_in, related_to};

@@ -1,5 +1,7 @@
 // The outcome of one obligation, document 01's duty: an own step from s to u, at a state t of the other side that is related to s. It is told from words,
 // so it costs a few instructions. The caller hands over the sets of states: nothing here knows which side is which, or how steps are told apart.
+#![tactic(auto)]
+
 ghost use Rattle.std.specs.Prelude.{◌≡◌};
 ghost use Rattle.outcomes.specs.Obligation.{first_falling, without_stutter, clause_number, failure_number};
 

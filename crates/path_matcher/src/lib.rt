@@ -1,5 +1,7 @@
 // A run followed on the other model, of tables without keys. It goes by the judge's clauses in order, 2a, then 2b, then 2c, the smallest state each time; a
 // new block begins at each 2a. What it finds is kept until both outputs are known to have room, so that a refusal leaves them as they were.
+#![tactic(auto)]
+
 ghost use Rattle.std.specs.Prelude.{◌≡◌, ◌+◌, ◌*◌, ◌≤◌, ◌<◌, length, take, drop};
 ghost use mathlib.Core.List.{◌++◌, flat_map};
 ghost use Rattle.lists.specs.Numbers.{byte_at, big_bytes};

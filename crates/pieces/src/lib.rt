@@ -1,4 +1,6 @@
 // How the program's standard input is cut: three pieces, left, right and certificate, each after a two-byte length.
+#![tactic(auto)]
+
 ghost use Rattle.std.specs.Prelude.{◌≡◌, ◌*◌, ◌-◌, ◌≤◌, length};
 ghost use Rattle.pieces.specs.Pieces.{length_at, piece_start, piece_end, piece_of, missing_of};
 

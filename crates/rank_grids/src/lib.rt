@@ -1,4 +1,6 @@
 // The ranks that the maker writes, from the lengths of one side, as grids with rows of 64: A ranks from chain lengths, C ranks from match distances.
+#![tactic(auto)]
+
 ghost use Rattle.std.specs.Prelude.{◌≡◌, ◌≤◌, ◌<◌, length};
 ghost use Rattle.lists.specs.Lists.{tabulate};
 ghost use Rattle.rank_grids.specs.RankGrids.{stutter_where, match_by, stutter_grid, match_grid};

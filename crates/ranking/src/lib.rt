@@ -1,5 +1,7 @@
 // The maker, once by each finder of match distances, and the enquiry and the commit that part it in two: for any byte strings and any output their six
 // numbers, the slip and every byte of the output. Each reads the files and examines what was read; the makers and the commit only then fill the output.
+#![tactic(auto)]
+
 ghost use Rattle.std.specs.Prelude.{◌≡◌, length};
 ghost use Rattle.answers.specs.Numbers.{six_numbers};
 ghost use Rattle.answers.specs.Verdicts.{go_on, as_checked};

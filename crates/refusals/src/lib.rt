@@ -1,4 +1,6 @@
 // Why a file is refused, and the six numbers of each refusal. A refusal does not know which file it is of: the caller gives the file's number.
+#![tactic(auto)]
+
 ghost use Rattle.std.specs.Prelude.{◌≡◌};
 ghost use Rattle.refusals.specs.Refusals.{table_answer, certificate_answer, relation_answer};
 

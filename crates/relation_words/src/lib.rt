@@ -1,4 +1,6 @@
 // The relation of two tables as words, one for each state of a side: the states of the other side that are related to it.
+#![tactic(auto)]
+
 ghost use Rattle.std.specs.Prelude.{◌≡◌};
 ghost use Rattle.relation_words.specs.Relation.{row_word, row_words, column_word, column_words};
 

@@ -1,4 +1,6 @@
 // The reference finder of match distances: for each of our steps a row of lengths is relaxed until no step of theirs shortens one.
+#![tactic(auto)]
+
 ghost use Rattle.std.specs.Prelude.{◌≡◌, true, false, ◌^◌, ◌<◌};
 ghost use Rattle.lists.specs.Lists.{tabulate};
 ghost use Rattle.bisimulation.specs.Maker.{distance};

@@ -1,6 +1,8 @@
 // The one form in which two read tables and a relation are handed on. The relation is a word for each state: the states related to it. A side is all
 // that is asked of one table and of the relation, worked out once a call: every fact of a state or of a step is one read, and the steps from a state
 // are linked in their order.
+#![tactic(auto)]
+
 ghost use Rattle.std.specs.Prelude.{◌≡◌, cond, ◌+◌, ◌^◌, ◌≤◌, ◌<◌, min};
 ghost use Rattle.tables.specs.Table.{layout_of};
 ghost use Rattle.sides.specs.Side.{cell_at, head_part, system_in, start_word_in, key_at, related_to, silent_from};

@@ -1,4 +1,6 @@
 // Reads the three pieces of a program's standard input.
+#![tactic(auto)]
+
 ghost use Rattle.std.specs.Prelude.{◌≤◌, length, take};
 ghost use Rattle.pieces.specs.Pieces.{ReadCall, ReadOut};
 

@@ -1,4 +1,6 @@
 // The starts rule on two sides: each start of either is related to some start of the other. The sets of starts and of related states are words.
+#![tactic(auto)]
+
 ghost use Rattle.std.specs.Prelude.{◌≡◌};
 ghost use Rattle.answers.specs.Verdicts.{as_checked};
 ghost use Rattle.sides.specs.Side.{start_in};

@@ -1,4 +1,6 @@
 // The C interface, as include/stutter.h has it: a slice is a pointer and a length.
+#![tactic(auto)]
+
 ghost use Rattle.std.specs.Prelude.{◌≤◌, ◌≡◌, length};
 ghost use Rattle.checker.specs.Judge.{judge_answer};
 ghost use Rattle.ranking.specs.Make.{make_answer, make_output};

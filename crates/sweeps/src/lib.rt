@@ -1,5 +1,7 @@
 // All checks of two sides in judging order: the obligations counted by the clause that meets them, or the first refusal. An obligation costs a few
 // instructions, and no list of steps is searched for one.
+#![tactic(auto)]
+
 ghost use Rattle.std.specs.Prelude.{◌≡◌, [], ◌∷◌, ◌^◌, ◌<◌};
 ghost use Rattle.sweeps.specs.Tallies.{none, add_to, total};
 ghost use Rattle.sweeps.specs.SideVerdicts.{progress, step_in, swept, pair_verdicts, row_verdicts, all_verdicts};

@@ -1,4 +1,6 @@
 // Two tables, read together: the headers of both, or the answer that refuses one of them, or the two for being of different kinds.
+#![tactic(auto)]
+
 ghost use Rattle.std.specs.Prelude.{◌≡◌};
 ghost use Rattle.table_pairs.specs.TablePairs.{same_kind, tables_verdict, as_tables_read, tables_refusal};
 

@@ -1,4 +1,6 @@
 // The reader of state tables: for every byte string a header, or the one refusal whose condition and place in the order fit.
+#![tactic(auto)]
+
 ghost use Rattle.std.specs.Prelude.{◌≡◌};
 ghost use Rattle.lists.specs.Below.{first_below};
 ghost use Rattle.answers.specs.Verdicts.{refusal_of};

@@ -1,4 +1,6 @@
 // State tables: where each field of a file lies, and reading one. For every byte string, whether or not it is a good table.
+#![tactic(auto)]
+
 ghost use Rattle.std.specs.Prelude.{◌≡◌, ◌<◌};
 ghost use Rattle.tables.specs.Table.{one_start_layout, start_word_layout, layout_of, format_of};
 ghost use Rattle.tables.specs.Table.{keyed, version_of, last_version, format_in, states_of, start_of, starts_of, initial_of, steps_of};

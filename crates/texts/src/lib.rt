@@ -1,4 +1,6 @@
 // Six numbers as the programs print them: in decimal, one space between, and a newline.
+#![tactic(auto)]
+
 ghost use Rattle.std.specs.Prelude.{◌≡◌, ◌+◌, ◌≤◌, length};
 ghost use Rattle.texts.specs.Texts.{decimal, number_text, six_text, answer_text, fitting};
 ghost use Rattle.texts.specs.Wrote.{most_number, Wrote};

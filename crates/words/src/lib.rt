@@ -1,4 +1,6 @@
 // A set of states below 64, as the bits of a word.
+#![tactic(auto)]
+
 ghost use Rattle.std.specs.Prelude.{◌≡◌, eqb};
 ghost use Rattle.std.specs.Int.Bits.{bit_and, bit_or};
 ghost use Rattle.lists.specs.Numbers.{big_endian, big_bytes};

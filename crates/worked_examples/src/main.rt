@@ -11,6 +11,8 @@
 // B what the judge says of the certificate that the maker writes, or the maker's refusal;
 // W not six numbers, but an output of one byte more than the certificate, as the maker leaves it, in hexadecimal digits.
 // Before the maker runs, each byte of the output is a5.
+#![tactic(auto)]
+
 ghost use Rattle.std.specs.Prelude.{◌≡◌, true, ◌<◌, ◌≤◌, length};
 
 use answers::Answer;
