@@ -11,20 +11,11 @@ use Rattle.lists.specs.Lists.{put_at}
 use Rattle.lists.specs.Numbers.{big_bytes}
 use Rattle.lists.proofs.FillLaws.{put-at-fits, put-at-short}
 use Rattle.lists.proofs.NumberLaws.{length-bytes}
-use borrow.Author.Rules.{rules}
-use Rattle.lists.proofs.put_be.Statement.{statement}
-use Rattle.lists.proofs.put_be.Tie as tie
+use Rattle.lists.proofs.put_be.Goals as goal
 
 -- The output l with the i bytes of x over those from `at` on.
 abbrev over : (at i x : ℕ) → List ℕ → List ℕ
 over at i x l = take at l ++ big_bytes i x ++ drop (at + i) l
-
-abbrev invariant-loop : tie.invariant-loop
-invariant-loop output₀ at k number x₀ i₀ output x i =
-    (i ≤ k) × (at + k ≤ length output₀) × (length output ≡ length output₀) × (over at i x output ≡ over at k number output₀)
-
-abbrev decreases-loop : tie.decreases-loop
-decreases-loop output₀ at k number x₀ i₀ output x i = i
 
 -- the last byte that is left, stored
 one_less : (at i x : ℕ) (l : List ℕ) → 0 < i → at + i ≤ length l → over at (i - 1) (x / 256) (set l (at + (i - 1)) (x % 256)) ≡ over at i x l
@@ -51,67 +42,33 @@ all-over : (at k x : ℕ) (d : List ℕ) → at + k ≤ length d → over at k x
 all-over at k x d h =
     ap (λ (n : ℕ). take at d ++ big_bytes k x ++ drop (at + n) d) (sym (length-bytes k x)) ∙ sym (put-at-fits at (big_bytes k x) d (rw length-bytes h))
 
-returns : tie.Need-returns invariant-loop decreases-loop
-returns c = sym (put-at-short _ _ _ (rw length-bytes (omega arith)))
+pub returns-then-output-at : goal.returns-then-output-at
+returns-then-output-at c = sym (put-at-short _ _ _ (rw length-bytes (omega arith)))
 
-sub-if2 : tie.Need-overflow-sub-if2 invariant-loop decreases-loop
-sub-if2 c = search rules
+pub returns-then-output-at-2 : goal.returns-then-output-at-2
+returns-then-output-at-2 c = sym (put-at-short _ _ _ (rw length-bytes (omega arith)))
 
-returns-2 : tie.Need-returns-2 invariant-loop decreases-loop
-returns-2 c = sym (put-at-short _ _ _ (rw length-bytes (omega arith)))
+pub loop-i-init : goal.loop-i-init
+loop-i-init c = (omega arith, omega arith, refl, refl)
 
-loop-holds : tie.Need-loop-init invariant-loop decreases-loop
-loop-holds c = (omega arith, omega arith, refl, refl)
+pub overflow_add-output : goal.overflow_add-output
+overflow_add-output c = omega arith
 
-sub-i : tie.Need-overflow-sub-i invariant-loop decreases-loop
-sub-i c = search rules
+pub bounds-output-at : goal.bounds-output-at
+bounds-output-at c = omega arith
 
-cast-output : tie.Need-overflow-cast-output invariant-loop decreases-loop
-cast-output c = search rules
-
-add-output : tie.Need-overflow-add-output invariant-loop decreases-loop
-add-output c = omega arith
-
-slice-write-output : tie.Need-slice-write-output invariant-loop decreases-loop
-slice-write-output c = omega arith
-
-loop-less : tie.Need-loop-smaller invariant-loop decreases-loop
-loop-less c = search rules
-
-loop-again : tie.Need-loop-preserved invariant-loop decreases-loop
-loop-again c =
-    let at = c.before.before.before.before.args.at in
-    let l = c.before.loop in (
+pub loop-i-preserved : goal.loop-i-preserved
+loop-i-preserved c =
+    let at = c.args.at in
+    let l = c.loop-i in (
       omega arith,
       l.invariant.1,
       length-set l.output (at + (l.i - 1)) (l.x % 256) ∙ l.invariant.2,
       one_less at l.i l.x l.output (omega arith) (omega arith) ∙ l.invariant.3,
     )
 
-same_length : tie.Need-same-length invariant-loop decreases-loop
-same_length c = search rules
-
-returns-3 : tie.Need-returns-3 invariant-loop decreases-loop
-returns-3 c =
-    let a = c.before.before.before.before.args in
-    let l = c.before.loop in
+pub returns : goal.returns
+returns c =
+    let a = c.args in
+    let l = c.loop-i in
     sym (none_left a.at l.i l.x l.output (omega arith)) ∙ l.invariant.3 ∙ all-over a.at a.k a.number a.output.now l.invariant.1
-
-pub put-be-spec : {M : Type 1} → statement M
-put-be-spec =
-    tie.close
-    (tie.spec
-    invariant-loop
-    decreases-loop
-    returns
-    sub-if2
-    returns-2
-    loop-holds
-    sub-i
-    cast-output
-    add-output
-    slice-write-output
-    loop-less
-    loop-again
-    same_length
-    returns-3)
