@@ -60,7 +60,8 @@ module _ (v : View) where
         mid-all P J j _ a,
         any-i _ _ (length K) f.small'
             (run-matches v j t K k _ q f.inside'
-            (rw (mid_step s J j _ p) (last-all (λ x. All (λ y. T (related x y)) (t ∷ map other.to K)) s J f.all-related))
+            (let P : ℕ → Type 0 = λ x. All (λ y. T (related x y)) (t ∷ map other.to K) in
+            subst P (sym (mid_step s J j _ p)) (last-all P s J f.all-related))
             l.0 l.1.all-related.0.0),
       )
 
