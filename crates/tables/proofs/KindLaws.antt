@@ -5,7 +5,6 @@ use mathlib.Core.Path.{◌≡◌, refl, ◌∙◌}
 use mathlib.Core.Bool.{Bool, true, false, cond}
 use mathlib.Core.List.{List}
 use lib.Dec.{T, eqb}
-use Rattle.tables.specs.declared.Format.{Format}
 use Rattle.tables.specs.declared.Format.TheVariants.{Version1, Version2, Version3, Version4}
 use Rattle.tables.specs.Table.{layout_of, format_of, keyed, version_of, format_in, layout_in, start_word, key_of, key_in}
 use Rattle.tables.specs.Model.{system_of}
