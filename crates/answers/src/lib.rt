@@ -2,7 +2,7 @@
 #![tactic(auto)]
 
 // The six numbers of an answer: code, file, a, b, c, d.
-#[derive(Drop)]
+#[derive(Clone, Copy)]
 pub struct Answer {
     pub code: usize,
     pub file: usize,

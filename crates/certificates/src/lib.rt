@@ -9,7 +9,7 @@ use tables::Head;
 use words::Row;
 
 // The sizes of two tables, as a certificate's header has them: states left and right, steps left and right.
-#[derive(Drop)]
+#[derive(Clone, Copy)]
 pub struct Sizes {
     pub n1: u8,
     pub n2: u8,

@@ -28,7 +28,7 @@ use table_pairs::{Heads, TablesRead};
 use tables::{Head, labels, steps};
 
 // The slip of an enquiry: the lengths in bytes of the three inputs and of their certificate.
-#[derive(Drop)]
+#[derive(Clone, Copy)]
 pub struct Slip {
     pub left: usize,
     pub right: usize,

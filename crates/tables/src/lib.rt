@@ -10,7 +10,7 @@ use lists::{byte, part_of, read_be, read_be16};
 use words::Row;
 
 // The format of a table: by its version, or that of tables whose steps have keys.
-#[derive(Drop)]
+#[derive(Clone, Copy)]
 pub enum Format {
     Version1,
     Version2,
@@ -38,7 +38,7 @@ pub struct Layout {
 }
 
 // What the header of a good table says; `initial` is the set of initial states.
-#[derive(Drop)]
+#[derive(Clone, Copy)]
 pub struct Head {
     pub format: Format,
     pub states: usize,

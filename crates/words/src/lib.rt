@@ -8,7 +8,7 @@ ghost use Rattle.lists.specs.Lists.{put_at};
 ghost use Rattle.words.specs.Bits.{has_bit, has_from, add_bit, remove_bit, without_bits, count_bits, first_bit};
 
 // A set of states: state t is in it where the word has the bit of weight 2 to the power t.
-#[derive(Drop)]
+#[derive(Clone, Copy)]
 pub struct Row(pub u64);
 
 impl Row {
