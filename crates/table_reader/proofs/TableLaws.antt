@@ -1,6 +1,6 @@
 -- What a good read says: the header's fields and limits (`HeadOk`), the lengths of the two parts, that the system that the bytes give is well
 -- formed (`TableFormed`), and which state the start is. All of it follows from the fact that no cause for turning the table away applies. Assumes nothing.
-use Prim.Native.Nat.{ℕ, ◌+◌, ◌*◌, ◌^◌, ◌≤◌, ◌<◌}
+use Prim.Native.Nat.{ℕ, ◌*◌, ◌^◌, ◌≤◌, ◌<◌}
 use mathlib.Core.Path.{◌≡◌, sym, ap, ◌∙◌, subst}
 use mathlib.Core.Logic.{inl, inr, ⊎_elim}
 use mathlib.Core.Bool.{Bool, false, cond, ◌||◌, or-false}
