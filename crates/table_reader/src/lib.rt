@@ -20,7 +20,7 @@ use tables::{
 use words::Row;
 
 // The kinds of table that a reader knows: those without keys and those with keys, or those without keys alone.
-#[derive(Drop)]
+#[derive(Clone, Copy)]
 pub enum Known {
     Both,
     Plain,
