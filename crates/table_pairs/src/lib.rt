@@ -9,7 +9,7 @@ use table_reader::{Known, TableRead, read_table, table_answer};
 use tables::{Head, is_keyed};
 
 // The headers of the two tables.
-#[derive(Drop)]
+#[derive(Clone, Copy)]
 pub struct Heads {
     pub left: Head,
     pub right: Head,
