@@ -34,7 +34,8 @@ pub fn read_pieces(stdin: Stdin, input: &mut [u8; MOST]) -> usize
         let end = n + missing;
         let part = &mut places[n..end];
         let got = read_once(stdin, part);
-        if got <= 0 {
+        let ended = got <= 0;
+        if ended {
             return n;
         }
         n += got as usize;

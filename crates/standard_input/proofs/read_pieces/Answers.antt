@@ -27,16 +27,16 @@ asked c =
 pub loop-places-init : goal.loop-places-init
 loop-places-init c = (omega arith, refl, nothing)
 
-pub returns-then-got-le0-clause-read : goal.returns-then-got-le0-clause-read
-returns-then-got-le0-clause-read c =
+pub returns-then-ended-clause-read : goal.returns-then-ended-clause-read
+returns-then-ended-clause-read c =
     let l = c.loop-places in
-    let a = asked (goal.at.returns-then-got-le0-clause-read c).After-read_once-got in
-    rw (take_put l.n _ l.places c.read_once-got.new.places l.invariant.0) (ended _ _ l.invariant.2 a (le_z_yes (passes _ c.if-got-le0.true)))
+    let a = asked (goal.at.returns-then-ended-clause-read c).After-read_once-got in
+    rw (take_put l.n _ l.places c.read_once-got.new.places l.invariant.0) (ended _ _ l.invariant.2 a (le_z_yes (passes _ c.if-ended.true)))
 
 pub loop-places-preserved : goal.loop-places-preserved
 loop-places-preserved c =
     let l = c.loop-places in
-    let k = call-came (asked (goal.at.loop-places-preserved c).After-read_once-got) c.if-got-le0.false in
+    let k = call-came (asked (goal.at.loop-places-preserved c).After-read_once-got) c.if-ended.false in
     let e = length-take-le l.n l.places l.invariant.0 in
     let v = c.missing-missing.ensures.value in
     (search rules, search rules, reading-more l.n _ e l.invariant.2 k.call)
