@@ -6,6 +6,7 @@ ghost use Rattle.pieces.specs.Pieces.{piece_of, ReadOut};
 ghost use Rattle.checker.specs.Judge.{judge_answer};
 
 use answers::Answer;
+use std::io::Stdin;
 
 // The judge's answer to an input.
 fn answer_of(input: &[u8]) -> Answer
@@ -18,11 +19,11 @@ fn answer_of(input: &[u8]) -> Answer
 }
 
 // Reads the input until it is whole or ends, and judges its three pieces.
-fn judge_input() -> Answer
+fn judge_input(stdin: Stdin) -> Answer
     ensures { (s : List ℕ) × ReadOut s × (result ≡ judge_answer (piece_of s 0) (piece_of s 1) (piece_of s 2)) }
 {
     let mut input = [0u8; standard_input::MOST];
-    let n = standard_input::read_pieces(&mut input);
+    let n = standard_input::read_pieces(stdin, &mut input);
     answer_of(&input[..n])
 }
 
@@ -33,6 +34,6 @@ fn print_answer(answer: Answer) {
     io::write_all(1, &line[..end]);
 }
 
-fn main() {
-    print_answer(judge_input());
+fn main(rt: HostRuntime) {
+    print_answer(judge_input(rt.stdin()));
 }

@@ -6,6 +6,8 @@ ghost use Rattle.std.specs.Prelude.{◌≡◌, List, ℕ, ◌≤◌, length, tak
 ghost use Rattle.pieces.specs.Pieces.{piece_of, ReadOut};
 ghost use Rattle.lister.specs.Listing.{printed};
 
+use std::io::Stdin;
+
 // Puts what is printed for an input, and answers how many bytes that are.
 fn list_of(input: &[u8], output: &mut [u8; lister::MOST]) -> usize
     ensures fits { result ≤ length output.new }
@@ -19,17 +21,17 @@ fn list_of(input: &[u8], output: &mut [u8; lister::MOST]) -> usize
 }
 
 // Reads the input until it is whole or ends, and puts what is printed for its three pieces.
-fn list_input(output: &mut [u8; lister::MOST]) -> usize
+fn list_input(stdin: Stdin, output: &mut [u8; lister::MOST]) -> usize
     ensures fits { result ≤ length output.new }
     ensures text { (s : List ℕ) × ReadOut s × (take result output.new ≡ printed (piece_of s 0) (piece_of s 1) (piece_of s 2)) }
 {
     let mut input = [0u8; standard_input::MOST];
-    let n = standard_input::read_pieces(&mut input);
+    let n = standard_input::read_pieces(stdin, &mut input);
     list_of(&input[..n], output)
 }
 
-fn main() {
+fn main(rt: HostRuntime) {
     let mut output = [0u8; lister::MOST];
-    let n = list_input(&mut output);
+    let n = list_input(rt.stdin(), &mut output);
     io::write_all(1, &output[..n]);
 }

@@ -1,6 +1,5 @@
 -- The program's standard input (document 01, Program): three pieces, left, right and certificate, each after a two-byte length.
-use Rattle.std.specs.Prelude.{ℕ, zero, suc, ◌+◌, ◌-◌, List, [], ◌++◌, ◌≡◌, ℤ, pos, length, take, ◌≤ℤ◌}
-use Rattle.libc.specs.Io.{Moved}
+use Rattle.std.specs.Prelude.{ℕ, zero, suc, ◌+◌, ◌-◌, List, [], ◌++◌, ◌≡◌, ◌≤◌, ℤ, pos, negsuc, length, take, ◌≤ℤ◌}
 use Rattle.lists.specs.Lists.{part}
 use Rattle.lists.specs.Numbers.{big_endian, big_bytes}
 
@@ -27,6 +26,11 @@ wanted s = length_at s 3
 -- How many of them are still to be read; 0 where the three pieces are there.
 unfoldable pub missing_of : List ℕ → ℕ
 missing_of s = wanted s - length s
+
+-- What a call that is lent n places may answer: -1, or how many bytes it put, at most n.
+abbrev pub Moved : ℕ → ℤ → Type 0
+Moved n (pos k) = k ≤ n
+Moved n (negsuc k) = k ≡ 0
 
 -- A call of `read` that was lent n places answered r, and then the places held t: r is -1, or how many bytes it put. No contract can name a call, so this
 -- is only what the contract of `read` says of every call; the proof of the function whose body is the call, `standard_input::read_once`, is the one that

@@ -4,18 +4,23 @@
 ghost use Rattle.std.specs.Prelude.{◌≤◌, length, take};
 ghost use Rattle.pieces.specs.Pieces.{ReadCall, ReadOut};
 
+use std::io::{Read, Stdin};
+
 // The most bytes that three pieces and their lengths have: 3 times 2 + 65,535.
 pub const MOST: usize = 196611;
 
-// The one call of `read`, on standard input; answers what it answered.
-fn read_once(places: &mut [u8]) -> isize
+// The one call of `read`, on standard input; answers how many bytes it put, and -1 where it failed.
+fn read_once(mut stdin: Stdin, places: &mut [u8]) -> isize
     ensures { ReadCall (length places.old) result places.new }
 {
-    libc::read(0, places)
+    match stdin.read(places) {
+        Ok(n) => n as isize,
+        Err(_) => -1,
+    }
 }
 
 // Reads until the three pieces are there or the input ends, never past the third piece, and answers how many bytes came.
-pub fn read_pieces(input: &mut [u8; MOST]) -> usize
+pub fn read_pieces(stdin: Stdin, input: &mut [u8; MOST]) -> usize
     ensures fits { result ≤ length input.new }
     ensures read { ReadOut (take result input.new) }
 {
@@ -28,8 +33,9 @@ pub fn read_pieces(input: &mut [u8; MOST]) -> usize
         }
         let end = n + missing;
         let part = &mut places[n..end];
-        let got = read_once(part);
-        if got <= 0 {
+        let got = read_once(stdin, part);
+        let ended = got <= 0;
+        if ended {
             return n;
         }
         n += got as usize;

@@ -1,0 +1,8 @@
+-- `pieces::piece_end` meets its contract: a piece ends where the next length begins. Assumes nothing.
+use Rattle.std.proofs.Common.{ap, ◌∙◌, add-one}
+use Rattle.pieces.specs.Pieces.{length_at, piece_end}
+use Rattle.pieces.proofs.piece_end.Goals as goal
+
+pub returns : goal.returns
+unfolding piece_end
+returns c = let a = c.args in c.length_at.ensures.value ∙ ap (length_at a.input.now) (add-one a.i)
