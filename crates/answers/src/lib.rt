@@ -13,7 +13,7 @@ pub struct Answer {
 }
 
 // Whether a test passes, or what it is refused with.
-#[derive(Drop)]
+#[derive(Clone, Copy)]
 pub enum Checked {
     Passed,
     Refused(Answer),

@@ -44,7 +44,7 @@ pub struct Enquiry {
 }
 
 // How match distances are found: by relaxing rows of lengths, the reference, or by growing sets of states (document 02, Ask 10).
-#[derive(Drop)]
+#[derive(Clone, Copy)]
 enum Finder {
     Relaxing,
     Sets,
