@@ -17,7 +17,7 @@ use tables::Head;
 
 // Where the A ranks and the C ranks of a side begin in a certificate, and how many states the other side has. The widths are such that no sum of them
 // is too large.
-#[derive(Drop)]
+#[derive(Clone, Copy)]
 pub struct Run {
     pub stutter: u32,
     pub matches: u32,
@@ -25,7 +25,7 @@ pub struct Run {
 }
 
 // A related pair, seen from a side: 0 left, 1 right.
-#[derive(Drop)]
+#[derive(Clone, Copy)]
 pub struct Place {
     pub side: usize,
     pub own: usize,
