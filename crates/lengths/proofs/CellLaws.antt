@@ -1,5 +1,5 @@
 -- Laws of the rows of the tables of lengths: what stands in them, and the loop that writes them. Assumes nothing.
-use Prim.Native.Nat.{ℕ, ◌+◌, ◌-◌, ◌*◌, ◌≤◌, ◌<◌, zero-le}
+use Prim.Native.Nat.{ℕ, ◌+◌, ◌-◌, ◌*◌, ◌≤◌, ◌<◌}
 use mathlib.Core.Path.{◌≡◌, sym, ap, ◌∙◌}
 use mathlib.Core.List.{List, ◌++◌}
 use lib.ListN.{length, drop, get_or, get_or-append, replicate, get_or-replicate, length-replicate}
@@ -8,9 +8,8 @@ use native.Mathlib.Omega.{arith}
 use native.Mathlib.Decide.{dec_lt}
 use borrow.Rule.Slice.PartMut.{put_mid}
 use borrow.Author.Tests.{lt-ltb, le-ltb}
-use Rattle.lists.specs.Lists.{tabulate, grid, part, put_front}
-use Rattle.lists.proofs.FillLaws.{length-grid, get_or-grid, grid-cells, length-tabulate, tabulate-of, tabulate-cong}
-use Rattle.lists.proofs.FillLaws.{Rows, rows_none, rows_more, row_fits, part_length, put-front-whole}
+use Rattle.lists.specs.Lists.{tabulate, grid, part}
+use Rattle.lists.proofs.FillLaws.{length-grid, get_or-grid, grid-cells, tabulate-of, tabulate-cong, get_or-tabulate, Rows, rows_more, row_fits, part_length}
 use Rattle.bisimulation.specs.Systems.{View}
 use Rattle.bisimulation.specs.Maker.{distance}
 use Rattle.lengths.specs.Cells.{distance_at}
@@ -20,11 +19,11 @@ pub zeros : (n : ℕ) → replicate n 0 ≡ tabulate n (λ t. 0)
 zeros n = sym (tabulate-of (replicate n 0) n (sym (length-replicate n 0))) ∙ tabulate-cong n _ _ (λ t l. get_or-replicate n t 0 0 l)
 
 module _ (v : View) (j : ℕ) where
-  distance-past : (t : ℕ) → v.own.steps ≤ j → distance_at v j t ≡ 0
+  pub distance-past : (t : ℕ) → v.own.steps ≤ j → distance_at v j t ≡ 0
   unfolding distance_at
   distance-past t h = simp (le-ltb j v.own.steps h)
 
-  distances-at : {row : List ℕ} → j < v.own.steps → row ≡ tabulate 64 (distance v j) → row ≡ tabulate 64 (distance_at v j)
+  pub distances-at : {row : List ℕ} → j < v.own.steps → row ≡ tabulate 64 (distance v j) → row ≡ tabulate 64 (distance_at v j)
   unfolding distance_at
   distances-at h e = e ∙ tabulate-cong 64 _ _ (λ t l. simp (lt-ltb j v.own.steps h))
 
@@ -38,15 +37,15 @@ module _ (n : ℕ) {j a : ℕ} {f : ℕ → ℕ → ℕ} {d at : List ℕ} (w : 
   pub rows-part : length (part at a (a + 64)) ≡ 64
   rows-part = part_length at a 64 rows-room
 
-  -- and takes a row of 64 lengths
-  pub rows-put : {row ys : List ℕ} → row ≡ tabulate 64 (f j) → ys ≡ put_front row (part at a (a + 64)) → Rows (j + 1) (a + 64) 64 f d (put_mid a (a + 64 - a) at ys)
+  -- it is copied by index
+  pub rows-put : {row ys : List ℕ} → row ≡ tabulate 64 (f j) → ys ≡ tabulate (length (part at a (a + 64))) (λ t. get_or row t 0)
+      → Rows (j + 1) (a + 64) 64 f d (put_mid a (a + 64 - a) at ys)
   rows-put {row} {ys} r e =
-      rows_more n w h len
-      (e ∙ put-front-whole row (part at a (a + 64)) (rows-part ∙ sym (ap length r ∙ length-tabulate 64 (f j))) ∙ r
-      ∙ ap (λ (k : ℕ). tabulate k (f j)) (sym rows-part))
+      rows_more n w h len (e ∙ tabulate-cong (length (part at a (a + 64))) _ _
+      (λ t l. ap (λ (x : List ℕ). get_or x t 0) r ∙ get_or-tabulate 64 t (f j) (rw rows-part at l)))
 
 -- the rows that are left are as they were
-rows-rest : (n : ℕ) {s a : ℕ} {f : ℕ → ℕ → ℕ} {d at : List ℕ} → Rows s a 64 f d at → length d ≡ n * 64
+pub rows-rest : (n : ℕ) {s a : ℕ} {f : ℕ → ℕ → ℕ} {d at : List ℕ} → Rows s a 64 f d at → length d ≡ n * 64
     → ((j t : ℕ) → s ≤ j → j < n → t < 64 → get_or d (j * 64 + t) 0 ≡ f j t)
     → at ≡ grid n 64 f
 rows-rest n {s} {a} {f} {d} {at} w len rest =
@@ -59,43 +58,3 @@ rows-rest n {s} {a} {f} {d} {at} w len rest =
           ap (λ (x : ℕ). get_or (grid s 64 f ++ drop a d) x 0) (sym i) ∙ get_or-append-add (grid s 64 f) (drop a d) (j * 64 + t - a) 0
           ∙ get_or-drop a d (j * 64 + t - a) 0 ∙ ap (λ (x : ℕ). get_or d x 0) k ∙ rest j t (omega arith) h l
     ])
-
--- ---- the loop that writes the match distances of all steps of a side, a row for each
-
--- The rows before step j, up to a, are written, of as many as the side has steps.
-pub record DistanceRows (v : View) (count j a : ℕ) (at : List ℕ) : Type 0 where
-  pub rows : Rows j a 64 (distance_at v) (replicate 16384 0) at
-  pub le : j ≤ count
-  pub count-is : count ≡ v.own.steps
-  pub few : count ≤ 256
-
-table-room : length {A = ℕ} (replicate 16384 0) ≡ 256 * 64
-table-room = length-replicate {A = ℕ} 16384 0
-
-pub distance-rows-none : (v : View) {count : ℕ} → count ≡ v.own.steps → count ≤ 256 → DistanceRows v count 0 0 (replicate 16384 0)
-distance-rows-none v e l = record { rows = rows_none 64 (distance_at v) (replicate 16384 0); le = zero-le; count-is = e; few = l }
-
-module _ {v : View} {count j a : ℕ} {at : List ℕ} (d : DistanceRows v count j a at) where
-  -- where the next row begins is no large number
-  pub distance-rows-at : j < count → a < 16384
-  distance-rows-at h = omega (arith, d.rows.at, d.few)
-
-  pub distance-rows-room : j < count → a + 64 ≤ length at
-  distance-rows-room h = rows-room 256 d.rows table-room (omega (arith, d.few))
-
-  pub distance-rows-more : {row ys : List ℕ} → j < count → row ≡ tabulate 64 (distance v j) → ys ≡ put_front row (part at a (a + 64))
-      → DistanceRows v count (j + 1) (a + 64) (put_mid a (a + 64 - a) at ys)
-  distance-rows-more h r e =
-      record {
-        rows = rows-put 256 d.rows table-room (omega (arith, d.few)) (distances-at v j (omega (arith, d.count-is)) r) e;
-        le = omega arith;
-        count-is = d.count-is;
-        few = d.few;
-      }
-
-  pub distance-rows-all : count ≤ j → at ≡ grid 256 64 (distance_at v)
-  distance-rows-all h =
-      rows-rest 256 d.rows table-room (λ i t p q l.
-      let past : v.own.steps ≤ i = omega (arith, d.count-is) in
-      let below : i * 64 + t < 16384 = omega arith in
-      get_or-replicate 16384 (i * 64 + t) 0 0 below ∙ sym (distance-past v i t past))

@@ -1,4 +1,6 @@
--- Laws of match distances, and of the tables that hold them and the chain lengths.
+-- Laws of the maker's arithmetic for one side.
 pub mod DistanceLaws
 pub mod LengthTableLaws
+pub mod RelaxingLaws
 pub mod CellLaws
+pub mod OpenStepLaws

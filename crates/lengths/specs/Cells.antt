@@ -2,16 +2,16 @@
 use Rattle.std.specs.Prelude.{ℕ, cond, List, ltb}
 use Rattle.lists.specs.Lists.{grid}
 use Rattle.bisimulation.specs.Systems.{View}
-use Rattle.bisimulation.specs.Maker.{distance, stutter_rank}
+use Rattle.bisimulation.specs.Maker.{distance, chain_length}
 use Rattle.tables.specs.Table.{max_states, max_steps}
 
 -- Row j, column t: the match distance of the own step j at t. Past the last step stand zeros.
 unfoldable pub distance_at : View → ℕ → ℕ → ℕ
 distance_at v j t = cond (ltb j v.own.steps) (distance v j t) 0
 
--- Row t, column s: the A rank of s at t, the most steps in a chain at t from s, of at most as many as the side has states; 0 where they are not related.
+-- Row t, column s: the most steps in a chain at t from s, of at most as many as the side has states.
 abbrev pub chain_at : View → ℕ → ℕ → ℕ
-chain_at v t s = stutter_rank v s t
+chain_at v t s = chain_length v t v.own.states s
 
 -- The two tables, in rows of 64.
 abbrev pub distance_table : View → List ℕ

@@ -1,3 +1,4 @@
 pub mod PredecessorLaws
 pub mod GrowingLaws
 pub mod MarkLaws
+pub mod DistanceRowLaws

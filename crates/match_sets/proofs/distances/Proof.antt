@@ -3,7 +3,7 @@
 use Prim.Native.Nat.{◌-◌}
 use native.Mathlib.Omega.{arith}
 use Rattle.sides.specs.Views.{view_in}
-use Rattle.lengths.proofs.CellLaws.{DistanceRows, distance-rows-none, distance-rows-at, distance-rows-room, distance-rows-more, distance-rows-all}
+use Rattle.match_sets.proofs.DistanceRowLaws.{DistanceRows, distance-rows-none, distance-rows-at, distance-rows-room, distance-rows-more, distance-rows-all}
 use borrow.Author.Rules.{rules}
 use Rattle.match_sets.proofs.distances.Statement.{statement}
 use Rattle.match_sets.proofs.distances.Tie as tie

@@ -1,2 +1,0 @@
-pub mod OpenStepLaws
-pub mod ChainTableLaws
