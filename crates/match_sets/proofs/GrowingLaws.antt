@@ -10,7 +10,7 @@ use mathlib.Core.List.{List}
 use native.Mathlib.Numerals.{add-one, unary_clauses}
 use native.Mathlib.Omega.{arith}
 use native.Mathlib.Decide.{dec_lt}
-use lib.Dec.{T, T_not, not_T, ltb, eqb, eqb→eq}
+use lib.Dec.{T, T_not, not_T, eqb, eqb→eq}
 use lib.ListN.{length, get_or}
 use lib.Bits.{bit_and, bit_or}
 use borrow.Author.Tests.{lt-ltb}
