@@ -2,13 +2,12 @@
 -- our steps and theirs. Assumes nothing.
 use Prim.Native.Nat.{ℕ, ◌<◌}
 use mathlib.Core.Path.{◌≡◌, refl, sym, ap, ap₂, ◌∙◌}
-use mathlib.Core.Bool.{Bool, true, false, cond, ◌&&◌, ◌||◌}
+use mathlib.Core.Bool.{Bool, ◌&&◌, ◌||◌}
 use mathlib.Core.List.{List}
 use native.Mathlib.Omega.{arith}
 use lib.Dec.{T, ltb, leb}
 use Rattle.words.specs.Bits.{has_bit}
 use Rattle.bisimulation.specs.Systems.{View, WellFormed, flip, stays}
-use Rattle.bisimulation.specs.Maker.{chain_length, stutter_rank}
 use Rattle.answers.specs.Verdicts.{pass_if, first_in}
 use Rattle.answers.proofs.VerdictLaws.{along-cong, then_same}
 use Rattle.sides.specs.Side.{system_in, related_to}
@@ -41,21 +40,15 @@ module _ (ours theirs : List ℕ) where
       ap (λ (b : Bool). b || stays v j t)
       (ap (λ (x : ℕ). ltb x v.other.states) (table-distance v (steps-few ours) j t h l) ∙ sym (matched-test v j t))
 
--- the table has a chain's length where the two states are related
-where-related : (b : Bool) (n x : ℕ) → (b && leb n (cond b x 0)) ≡ (b && leb n x)
-where-related true n x = refl
-where-related false n x = refl
-
 -- a chain is too long by the table of chain lengths where it is endless
 module _ (ours theirs : List ℕ) (turned : (s t : ℕ) → has_bit (related_to theirs t) s ≡ has_bit (related_to ours s) t) where
   chains-are : (side : ℕ) → chains_in theirs ours side (chain_table (view_in ours theirs)) ≡ endless (view_in ours theirs) side
-  unfolding endless long_by endless_at stutter_rank
+  unfolding endless long_by endless_at
   chains-are side =
       chains-cong side (system_in theirs).states (system_in ours).states (long_by (view_in theirs ours) (chain_table (view_in ours theirs)))
       (endless_at (view_in ours theirs))
       λ b c hb hc.
       ap₂ ◌&&◌ (turned c b) (ap (leb (system_in ours).states) (table-chain (view_in ours theirs) b c (omega arith) (omega arith)))
-      ∙ where-related (has_bit (related_to ours c) b) (system_in ours).states (chain_length (view_in ours theirs) b (system_in ours).states c)
 
 -- ---- two sides
 

@@ -1,7 +1,7 @@
 -- The grids of ranks that true tables of lengths give hold the theory's ranks. Assumes nothing.
 use Prim.Native.Nat.{ℕ, ◌+◌, ◌*◌, ◌<◌}
-use mathlib.Core.Path.{◌≡◌, refl, sym, ap, ◌∙◌}
-use mathlib.Core.Bool.{Bool, true, false, cond}
+use mathlib.Core.Path.{◌≡◌, sym, ap, ◌∙◌}
+use mathlib.Core.Bool.{cond}
 use mathlib.Core.List.{List}
 use native.Mathlib.Omega.{arith}
 use lib.Dec.{ltb}
@@ -10,7 +10,7 @@ use Rattle.lists.specs.Numbers.{byte_at}
 use Rattle.lists.proofs.FillLaws.{get_or-grid}
 use Rattle.words.specs.Bits.{has_bit}
 use Rattle.bisimulation.specs.Systems.{View}
-use Rattle.bisimulation.specs.Maker.{chain_length, stutter_rank, match_rank}
+use Rattle.bisimulation.specs.Maker.{stutter_rank, match_rank}
 use Rattle.sides.specs.Side.{related_to}
 use Rattle.sides.specs.Views.{view_in}
 use Rattle.lengths.specs.Cells.{distance_at, chain_at}
@@ -30,11 +30,6 @@ module _ (ours theirs : List ℕ) where
   stutter-by-chains {chains} are s t h l =
       get_or-grid 64 64 (stutter_by ours chains) s t h l
       ∙ ap (λ (d : ℕ). cond (has_bit (related_to ours s) t) d 0) (ap (λ (x : List ℕ). byte_at x (t * 64 + s)) are ∙ table-chain v t s l h)
-      ∙ once (has_bit (related_to ours s) t)
-    where
-      once : (b : Bool) → cond b (cond b (chain_length v t v.own.states s) 0) 0 ≡ cond b (chain_length v t v.own.states s) 0
-      once true = refl
-      once false = refl
 
   -- the C ranks by the true distances
   pub match-by-table : {distances : List ℕ} → distances ≡ grid 256 64 (distance_at v) → (j t : ℕ) → j < v.own.steps → t < 64

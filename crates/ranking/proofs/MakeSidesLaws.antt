@@ -23,11 +23,9 @@ use Rattle.relation_words.specs.Relation.{row_words, column_words}
 use Rattle.sides.specs.Side.{system_in}
 use Rattle.sides.specs.Built.{SideOf}
 use Rattle.sides.specs.Views.{view_in}
-use Rattle.sides.proofs.ViewLaws.{steps-few, system-is, side-linked, view-is, view-flipped}
+use Rattle.sides.proofs.ViewLaws.{system-is, side-linked, view-is, view-flipped}
 use Rattle.starts.proofs.OnSidesLaws.{starts-named}
 use Rattle.lengths.specs.Cells.{distance_table, chain_table}
-use Rattle.chains.specs.Chains.{chains_by}
-use Rattle.chains.proofs.ChainTableLaws.{table-chains}
 use Rattle.rank_grids.specs.RankGrids.{stutter_grid, match_grid}
 use Rattle.rank_grids.proofs.RankGridLaws.{stutter-by-chains, match-by-table}
 use Rattle.files.specs.File.{certificate_file}
@@ -118,7 +116,7 @@ module _ (left right relation : List ℕ) {h : Heads} {words columns ll ls rl rs
     (ell : ll ≡ labels_part left) (els : ls ≡ steps_part left) (erl : rl ≡ labels_part right) (ers : rs ≡ steps_part right)
     (a : SideOf h.left ll ls words ours) (b : SideOf h.right rl rs columns theirs) {distances distances' chains chains' : List ℕ}
     (ed : distances ≡ distance_table (view_in ours theirs)) (ed' : distances' ≡ distance_table (view_in theirs ours))
-    (eh : chains ≡ chains_by (view_in ours theirs) distances) (eh' : chains' ≡ chains_by (view_in theirs ours) distances') where
+    (eh : chains ≡ chain_table (view_in ours theirs)) (eh' : chains' ≡ chain_table (view_in theirs ours)) where
   gl : read_table left ≡ table.Good h.left
   gl = (inputs_read left right relation good).0
 
@@ -137,12 +135,6 @@ module _ (left right relation : List ℕ) {h : Heads} {words columns ll ls rl rs
   their-side : SideOf h.right (labels_part right) (steps_part right) (column_words (row_words relation (states_of left))) theirs
   their-side = rw (erl, ers, ec, words_are) at b
 
-  our-chains : chains ≡ chain_table (view_in ours theirs)
-  our-chains = eh ∙ table-chains (view_in ours theirs) (steps-few ours) ed
-
-  their-chains : chains' ≡ chain_table (view_in theirs ours)
-  their-chains = eh' ∙ table-chains (view_in theirs ours) (steps-few theirs) ed'
-
   -- the examination of the sides is that of the bytes, and their ranks give the file for the relation
   pub examined-here : (as_checked (examined_in ours theirs distances distances' chains chains') ≡ as_checked (examined_verdict left right relation))
       × (certificate_file (sizes_of left right) relation
@@ -150,8 +142,8 @@ module _ (left right relation : List ℕ) {h : Heads} {words columns ll ls rl rs
       ≡ file_for left right relation)
   unfolding file_for
   examined-here = (
-    rw (our-chains, their-chains, ed, ed') (ap as_checked (examined-is left right relation all gl gr bytes our-side their-side)),
-    rw (our-chains, their-chains, ed, ed')
+    rw (ed, ed', eh, eh') (ap as_checked (examined-is left right relation all gl gr bytes our-side their-side)),
+    rw (ed, ed', eh, eh')
         (file-same (sizes_of left right) relation (ranks_made ours theirs) (made (view_of left right relation))
         (ranks-agree left right relation all gl gr bytes our-side their-side)),
   )
