@@ -7,7 +7,7 @@ use mathlib.Core.Bool.{Bool, not, ◌&&◌}
 use mathlib.Core.List.{List, [], ◌∷◌, ◌++◌, flat_map}
 use native.Mathlib.Omega.{arith}
 use native.Mathlib.Decide.{dec_lt}
-use lib.Dec.{T, ltb, leb, eqb, ltb→lt, lt→ltb, leb→le, le→leb}
+use lib.Dec.{T, ltb, eqb, ltb→lt, lt→ltb, leb→le, le→leb}
 use Rattle.lists.proofs.BoolLaws.{and_l, and_r, and_i}
 use Rattle.lists.proofs.JoinLaws.{all-flat, flat-all, all_join, join-all}
 use Rattle.bisimulation.specs.Systems.{View, WellFormed, flip, Stays}

@@ -7,7 +7,7 @@ ghost use Rattle.answers.specs.Numbers.{six_numbers};
 ghost use Rattle.answers.specs.Verdicts.{go_on, as_checked};
 ghost use Rattle.certificates.specs.Layout.{sizes_for, sizes_of, certificate_length};
 ghost use Rattle.sides.specs.Views.{view_in};
-ghost use Rattle.lengths.specs.Cells.{distance_table};
+ghost use Rattle.lengths.specs.Cells.{distance_table, chain_table};
 ghost use Rattle.inputs.specs.Inputs.{read_verdict};
 ghost use Rattle.files.specs.File.{certificate_file};
 ghost use Rattle.files.specs.Writer.{file_written};
@@ -17,10 +17,10 @@ ghost use Rattle.ranking.specs.Enquire.{blank_slip, same_slip, enquiry_for, comm
 
 use answers::{Answer, Checked};
 use certificates::Sizes;
-use chains::longest_chains;
 use examination::examine;
 use files::fill;
 use inputs::read;
+use lengths::{Measured, all_chains, measure};
 use rank_grids::{match_ranks, stutter_ranks};
 use relation_words::{column_words, row_words};
 use sides::{Side, side_of};
@@ -64,17 +64,18 @@ struct Examined {
 
 // ---- the parts
 
-// The match distances of our steps; each finder gives the same.
-fn distances_by(
-    finder: Finder,
-    ours: &Side,
-    theirs: &Side,
-) -> [u8; Head::MAX_STEPS * Head::MAX_STATES]
-    ensures { result ≡ distance_table (view_in ours.now theirs.now) }
+// The match distances of our steps and the lengths of our chains; each finder gives the same.
+fn measure_by(finder: Finder, ours: &Side, theirs: &Side) -> Measured
+    ensures distances { result.distances ≡ distance_table (view_in ours.now theirs.now) }
+    ensures chains { result.chains ≡ chain_table (view_in ours.now theirs.now) }
 {
     match finder {
-        Finder::Relaxing => relaxing::distances(ours, theirs),
-        Finder::Sets => match_sets::distances(ours, theirs),
+        Finder::Relaxing => measure(ours, theirs),
+        Finder::Sets => {
+            let distances = match_sets::distances(ours, theirs);
+            let chains = all_chains(ours, theirs, &distances);
+            Measured { distances, chains }
+        }
     }
 }
 
@@ -95,10 +96,12 @@ fn examine_read(
     let columns = column_words(&words);
     let ours = side_of(heads.left, labels(left), steps(left), &words);
     let theirs = side_of(heads.right, labels(right), steps(right), &columns);
-    let distances = distances_by(finder, &ours, &theirs);
-    let distances2 = distances_by(finder, &theirs, &ours);
-    let chains = longest_chains(&ours, &theirs, &distances);
-    let chains2 = longest_chains(&theirs, &ours, &distances2);
+    let lengths = measure_by(finder, &ours, &theirs);
+    let lengths2 = measure_by(finder, &theirs, &ours);
+    let distances = lengths.distances;
+    let distances2 = lengths2.distances;
+    let chains = lengths.chains;
+    let chains2 = lengths2.chains;
     let checked = examine(&ours, &theirs, &distances, &distances2, &chains, &chains2);
     Examined {
         ours,

@@ -31,23 +31,11 @@ steps-requires-2 c κs = search rules
 side-of-requires-2 : tie.Need-side-of-requires-2
 side-of-requires-2 c κs = search rules
 
-distances-by-requires : tie.Need-distances-by-requires
-distances-by-requires c κs = search rules
+measure-requires : tie.Need-measure_by-requires
+measure-requires c κs = search rules
 
-distances-by-requires-2 : tie.Need-distances-by-requires-2
-distances-by-requires-2 c κs = search rules
-
-slice-aggregate-longest-chains : tie.Need-slice-aggregate-longest-chains
-slice-aggregate-longest-chains c = search rules
-
-longest-chains-requires : tie.Need-longest-chains-requires
-longest-chains-requires c κs = search rules
-
-slice-aggregate-longest-chains-2 : tie.Need-slice-aggregate-longest-chains-2
-slice-aggregate-longest-chains-2 c = search rules
-
-longest-chains-requires-2 : tie.Need-longest-chains-requires-2
-longest-chains-requires-2 c κs = search rules
+measure-requires-2 : tie.Need-measure_by-requires-2
+measure-requires-2 c κs = search rules
 
 slice-aggregate-examine : tie.Need-slice-aggregate-examine
 slice-aggregate-examine c = search rules
@@ -66,20 +54,19 @@ examine-requires c κs = search rules
 
 returns : tie.Need-returns
 returns c =
-    let chains2 = c.before.before.before.before.before.before.before in
-    let chains = chains2.before.before.before.before in
-    let distances2 = chains.before.before.before.before in
-    let distances = distances2.before.before.before in
-    let theirs = distances.before.before.before in
+    let measured = c.before.before.before.before.before.before.before.before.before.before.before in
+    let theirs = measured.before.before.before.before.before.before in
     let ours = theirs.before.before.before.before in
     let words = ours.before.before.before.before.before.before in
     let start = words.before.before.before.before in
     let a = start.args in
     let bytes : AreBytes a.relation.now = λ i. omega (arith, words.before.shared-slice-known3.given i) in
+    let left = measured.before.before.before.measure_by.ensures in
+    let right = measured.measure_by2.ensures in
     let law = examined-here a.left.now a.right.now a.relation.now start.requires bytes words.row_words.ensures
     ours.before.before.before.before.column-words.ensures ours.before.before.before.labels.ensures ours.before.before.steps.ensures
     theirs.before.before.before.labels2.ensures theirs.before.before.steps2.ensures ours.side-of.ensures theirs.side-of2.ensures
-    distances.distances-by.ensures distances2.distances-by2.ensures chains.longest-chains.ensures chains2.longest-chains2.ensures in
+    left.0 right.0 left.1 right.1 in
     (c.examine.ensures ∙ law.0, law.1)
 
 pub examine-read-spec : {M : Type 1} → statement M
@@ -94,12 +81,8 @@ examine-read-spec =
     labels-requires-2
     steps-requires-2
     side-of-requires-2
-    distances-by-requires
-    distances-by-requires-2
-    slice-aggregate-longest-chains
-    longest-chains-requires
-    slice-aggregate-longest-chains-2
-    longest-chains-requires-2
+    measure-requires
+    measure-requires-2
     slice-aggregate-examine
     slice-aggregate-examine-2
     slice-aggregate-examine-3

@@ -1,0 +1,20 @@
+-- `examination::is_long` meets its contract: the relation first, then the length. Assumes nothing.
+use Prim.Native.Nat.{ℕ}
+use mathlib.Core.Path.{ap, ◌∙◌}
+use Rattle.words.specs.Bits.{has_bit}
+use Rattle.sides.specs.Views.{view_in}
+use Rattle.examination.proofs.KeptLaws.{long-related, long-unrelated}
+use Rattle.examination.proofs.is_long.Goals as goal
+
+pub returns-then-has : goal.returns-then-has
+returns-then-has c =
+    let a = c.args in
+    long-related (view_in a.ours.now a.theirs.now) a.chains.now a.b a.c
+    (c.has.ensures ∙ ap (λ (w : ℕ). has_bit w a.c) c.related-states_of.ensures.value) c.if-has.true c.byte.ensures.value
+    c.states.ensures.value
+
+pub returns : goal.returns
+returns c =
+    let a = c.args in
+    long-unrelated (view_in a.ours.now a.theirs.now) a.chains.now a.b a.c
+    (c.has.ensures ∙ ap (λ (w : ℕ). has_bit w a.c) c.related-states_of.ensures.value) c.if-has.false

@@ -1,0 +1,2 @@
+-- `ranking::measure_by` meets its contract: each finder gives the table of match distances, and the chains by that table are those of the chain table.
+-- Assumes nothing.
