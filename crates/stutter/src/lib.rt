@@ -115,12 +115,11 @@ pub extern "C" fn stutter_make(
         ≡ where_room answer.old
         (make_output left.now right.now relation.now output.old) output.old }
 {
-    if has_room(answer) {
-        let numbers = ranking::make(left, right, relation, output);
-        put_numbers(numbers, answer)
-    } else {
-        false
+    if answer.len() < PLACES {
+        return false;
     }
+    let numbers = ranking::make(left, right, relation, output);
+    put_numbers(numbers, answer)
 }
 
 // The same by the second maker, by sets: for every input the six numbers and the bytes of `stutter_make`.
@@ -175,21 +174,21 @@ pub extern "C" fn stutter_follow(
         (follow_blocks left.now right.now certificate.now side start path.now states.old
         blocks.old) blocks.old }
 {
-    if has_room(answer) {
-        let numbers = path_matcher::follow(
-            left,
-            right,
-            certificate,
-            side as usize,
-            start as usize,
-            path,
-            states,
-            blocks,
-        );
-        put_numbers(numbers, answer)
-    } else {
-        false
+    let places = answer.len();
+    if places < PLACES {
+        return false;
     }
+    let numbers = path_matcher::follow(
+        left,
+        right,
+        certificate,
+        side as usize,
+        start as usize,
+        path,
+        states,
+        blocks,
+    );
+    put_numbers(numbers, answer)
 }
 
 // Writes a table of version 4 at the front of `output`: with these marks, one for each state, this start word, and these steps, from in the high byte and to in
@@ -209,12 +208,12 @@ pub extern "C" fn stutter_write(
     ensures written { output.new
         ≡ where_room answer.old (write_output marks.now starts steps.now output.old) output.old }
 {
-    if has_room(answer) {
-        let numbers = table_writer::write(marks, Row(starts), steps, output);
-        put_numbers(numbers, answer)
-    } else {
-        false
+    let room = answer.len();
+    if room < PLACES {
+        return false;
     }
+    let numbers = table_writer::write(marks, Row(starts), steps, output);
+    put_numbers(numbers, answer)
 }
 
 // Enquires whether a certificate can be made. The four numbers of the slip go to the first four places of `slip`, and the six numbers to the first six places

@@ -1,15 +1,23 @@
--- `stutter::stutter_make` meets its contract: where there is room it makes, and then puts the numbers of the answer. Assumes nothing.
+-- `stutter::stutter_make` meets its contract: where there is room it makes, and then puts the numbers of the maker's answer. Assumes nothing.
 use mathlib.Core.Path.{sym, ap, ◌∙◌}
+use lib.ListN.{length}
+use borrow.Author.Tests.{le-leb, lt-leb}
+use Rattle.lists.proofs.FillLaws.{put-front-short}
 use Rattle.answers.specs.declared.Answer.{Answer}
 use Rattle.ranking.specs.Make.{make_answer}
-use Rattle.stutter.specs.Interface.{answered, where_room}
-use Rattle.stutter.proofs.InterfaceLaws.{too_few}
+use Rattle.stutter.specs.Interface.{numbers_of, has_room, answered, where_room}
 use borrow.Author.Rules.{rules}
 use Rattle.stutter.proofs.stutter_make.Statement.{statement}
 use Rattle.stutter.proofs.stutter_make.Tie as tie
 
-has-room-requires : tie.Need-has-room-requires
-has-room-requires c κs = search rules
+returns : tie.Need-returns
+unfolding numbers_of has_room answered where_room
+returns c =
+    let a = c.before.before.before.before.before.before.args in
+    let places = a.answer.now in
+    let short = lt-leb 6 (length places) c.if1.true in
+    let made = make_answer a.left.now a.right.now a.relation.now a.output.now in
+    (sym short, (sym (put-front-short (numbers_of made) places c.if1.true), simp short))
 
 make-requires : tie.Need-make-requires
 make-requires c κs = search rules
@@ -23,37 +31,17 @@ same_length c = search rules
 same-length-2 : tie.Need-same-length-2
 same-length-2 c = search rules
 
-returns : tie.Need-returns
-unfolding where_room
-returns c =
-    let test = c.before.before.before.before.before.before.before.before in
-    let a = test.before.before.before.before.before.before.before.before.args in
+returns-2 : tie.Need-returns-2
+unfolding has_room where_room
+returns-2 c =
+    let begun = c.before.before.before.before.before.before.before.before in
+    let a = begun.before.before.before.before.before.before.args in
     let places = a.answer.now in
-    let room = sym test.before.has_room.ensures ∙ test.if1.true in
+    let answer = make_answer a.left.now a.right.now a.relation.now a.output.now in
+    let room = le-leb 6 (length places) begun.if1.false in
     let made = c.before.before.before.before.before.before.make.ensures in
     let put = c.before.before.put-numbers.ensures in
-    let answer = make_answer a.left.now a.right.now a.relation.now a.output.now in
     (put.0, (put.1 ∙ ap (λ (x : Answer). answered x places) {y = answer} made.0, simp room made.1))
 
-same-length-3 : tie.Need-same-length-3
-same-length-3 c = search rules
-
-returns-2 : tie.Need-returns-2
-unfolding where_room
-returns-2 c =
-    let a = c.before.before.before.before.before.before.before.before.args in
-    let short = sym c.before.has_room.ensures ∙ c.if1.false in
-    (sym short, (too_few a.answer.now short (make_answer a.left.now a.right.now a.relation.now a.output.now), simp short))
-
 pub stutter-make-spec : {M : Type 1} → statement M
-stutter-make-spec =
-    tie.close
-    (tie.spec
-    has-room-requires
-    make-requires
-    put-numbers-requires
-    same_length
-    same-length-2
-    returns
-    same-length-3
-    returns-2)
+stutter-make-spec = tie.close (tie.spec returns make-requires put-numbers-requires same_length same-length-2 returns-2)
