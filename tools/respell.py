@@ -23,7 +23,7 @@ LEMMAS = [
     ("get_d_part", "get_or-part", ""),
     ("get_d_tabulate", "get_or-tabulate", ""),
     ("getD-grid", "get_or-grid", ""),
-    ("open_by", "open_by_lem", "chains/proofs/(OpenStepLaws|is_open/Proof)"),
+    ("open_by", "open_by_lem", "(chains|lengths)/proofs/(OpenStepLaws|is_open/Proof)"),
     ("row_word", "row_word_lem", "proofs/(ModelLaws|CertificateLaws|RelationLaws)"),
     ("start_word", "start_word_lem", "proofs/(TableCauseLaws|ReadBackLaws)"),
 ]
