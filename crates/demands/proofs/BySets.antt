@@ -3,7 +3,6 @@
 -- Assumes nothing.
 use Prim.Native.Nat.{ℕ, suc, ◌≤◌}
 use mathlib.Core.Path.{◌≡◌, sym, ap, ◌∙◌, subst}
-use mathlib.Core.Logic.{◌↔◌}
 use mathlib.Core.List.{List, [], ◌∷◌}
 use native.Mathlib.Nat.{le_refl, not-suc-le-zero}
 use lib.Dec.{T}
@@ -11,7 +10,7 @@ use lib.ListN.{length}
 use Rattle.words.specs.Bits.{has_bit}
 use Rattle.bisimulation.specs.Systems.{View, WellFormed, flip}
 use Rattle.bisimulation.specs.Maker.{matches_within}
-use Rattle.bisimulation.specs.Runs.{MatchingRun, Matched}
+use Rattle.bisimulation.specs.Runs.{MatchingRun}
 use Rattle.bisimulation.proofs.ClauseLaws.{flip-formed}
 use Rattle.bisimulation.proofs.RunLaws.{run-matches, shorten}
 use Rattle.answers.specs.declared.Answer.{Answer}

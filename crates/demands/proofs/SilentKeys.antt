@@ -20,7 +20,6 @@ use Rattle.tables.specs.Table.{label_of, from_of, to_of, key_of, key_in}
 use Rattle.tables.specs.Model.{system_of}
 use Rattle.tables.proofs.KindLaws.{plain-key, keyed-word}
 use Rattle.table_reader.specs.TableReading.{head_of}
-use Rattle.table_reader.specs.declared.TableRead.TheVariants as table
 use Rattle.table_reader.specs.TableCauses.{WellFormedTable}
 use Rattle.table_reader.proofs.TableCauseLaws.{formed-good}
 use Rattle.table_reader.proofs.TableLaws.{table-formed, labels_length, steps-length}

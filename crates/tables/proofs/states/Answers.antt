@@ -3,7 +3,6 @@ use borrow.Author.Rules.{rules}
 use Rattle.tables.specs.Table.{states_of}
 use Rattle.tables.proofs.states.Goals as goal
 
--- FIXME clauses: record { value = ..; small = .. } or one answer each returns-clause-value
 pub returns : goal.returns
 unfolding states_of
 returns c = search rules
