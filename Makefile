@@ -1,56 +1,60 @@
 # make run       prove and build the two programs, and run them on the example P, Q, K of the format's document
-# make examples  prove and build the library, and compile the C examples with it: target/judge, target/make, target/follow and target/write
-# make test      the whole gate: layout; rt ci, which proves every crate from nothing, tries the must-fail edits and runs the programs; the Rust tests
-#                on what it proved. Where all of this passes, the last line is that of rt ci, 'N passed, 0 failed', said again
+# make library   prove and build the library for C and Rust: target/staticlib/libstutter.a
+# make programs  prove and build the two programs: target/bin/judge and target/bin/listing
+# make examples  make library, and compile the C examples with it: target/judge, target/make, target/follow and target/write
+# make test      the whole gate: rt ci, which proves every crate, tries the must-fail edits and runs the programs; then the Rust tests on the library and
+#                on the programs that rt ci built. Where all of this passes, the last line is that of rt ci, 'N passed, 0 failed', said again
 # make bench     speed of the proved functions and of the listing program beside Rust versions, as ratios in one run; no part of the gate
-# make fmt       lay out every file under crates/
-
-# rt waits for the slowest of the crates or edits that it has started together; four at a time leave two cores the least idle.
-export RT_JOBS ?= 4
-
-# Each check copies what it stands on, thousands of files, to the folder for temporary files and removes them again, which on a disk takes up to two seconds.
-# So the folder is one in memory where there is one with room for it, and from which programs may be run.
-MEMORY := $(shell [ -w /dev/shm ] && [ "$$(df -P /dev/shm | awk 'END { print $$4 }')" -gt 4000000 ] \
-	&& ! grep -q ' /dev/shm .*noexec' /proc/mounts && echo /dev/shm)
-ifneq ($(MEMORY),)
-export TMPDIR ?= $(MEMORY)
-endif
+# make fmt       lay out every file of every crate
 
 CARGO_WORDS = --release --offline --quiet --manifest-path rust/Cargo.toml
 
-# What rt ci said; rt ci empties target/ at its start.
-VERDICT = rust/target/verdict
+# What rt ci said.
+VERDICT = target/verdict
+
+# What rt builds lies in the out/ of its crate. A copy that is the same already stays as it is, so that cargo builds nothing anew.
+define BUILD_LIBRARY
+cd crates/stutter && rt lib
+install -C -D -m 644 -t target/staticlib crates/stutter/out/libstutter.a
+endef
+COPY_PROGRAMS = install -C -D -t target/bin crates/judge/out/judge crates/listing/out/listing
 
 # A pipe fails where one of its commands does.
 SHELL = /bin/bash
 .SHELLFLAGS = -o pipefail -c
 
-.PHONY: run examples test bench fmt
+.PHONY: run library programs examples test bench fmt
 
-run:
-	rt check judge
-	rt check listing
+run: programs
 	@echo "P, Q, K are judged:"
 	@sh examples/input examples/P.hex examples/Q.hex examples/K.hex | target/bin/judge
 	@echo "and listed:"
 	@sh examples/input examples/P.hex examples/Q.hex examples/K.hex | target/bin/listing
 
-examples:
-	rt staticlib stutter
+library:
+	$(BUILD_LIBRARY)
+
+# rt builds a program where it runs it.
+programs:
+	cd crates/judge && rt run < stdin | cmp - stdout
+	cd crates/listing && rt run < stdin | cmp - stdout
+	$(COPY_PROGRAMS)
+
+examples: library
 	for name in judge make follow write; do cc -I include examples/$$name.c target/staticlib/libstutter.a -o target/$$name || exit; done
 
 test:
-	rt fmt --check
 	@mkdir -p $(dir $(VERDICT))
 	rt ci | tee $(VERDICT)
-	rt staticlib stutter
+	@# rt ci lets an edit pass that cannot be applied; here it is a failure.
+	@! grep -E '^rt: ok.*, [0-9]+ bad' $(VERDICT)
+	$(COPY_PROGRAMS)
+	$(BUILD_LIBRARY)
 	cargo test $(CARGO_WORDS)
 	@tail -n 1 $(VERDICT)
 
-bench:
-	rt staticlib stutter
-	rt check listing
+bench: library programs
 	cargo run $(CARGO_WORDS) --package stutter --example bench
 
 fmt:
-	rt fmt
+	for crate in crates/*/; do (cd $$crate && rt fmt) || exit; done

@@ -2,7 +2,7 @@
  * start on the other side; and the path's states. It prints a line for each block: the states given, and beside them those that match. On a refusal
  * it prints the six numbers. From the repository's folder:
  *
- *     rt staticlib stutter
+ *     make library
  *     cc -I include examples/follow.c target/staticlib/libstutter.a -o target/follow
  */
 #include "files.h"

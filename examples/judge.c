@@ -1,6 +1,6 @@
 /* Judges the three files that are named on the command line, left, right and certificate, and prints the six numbers. From the repository's folder:
  *
- *     rt staticlib stutter
+ *     make library
  *     cc -I include examples/judge.c target/staticlib/libstutter.a -o target/judge
  */
 #include "files.h"

@@ -2,7 +2,7 @@
  * numbers. It enquires first, and sets aside as many bytes as the certificate has; on a refusal it sets none aside and writes no file. From the
  * repository's folder:
  *
- *     rt staticlib stutter
+ *     make library
  *     cc -I include examples/make.c target/staticlib/libstutter.a -o target/make
  */
 #include "files.h"

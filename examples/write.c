@@ -1,7 +1,7 @@
 /* Writes a table to the file that is named first on the command line, and prints the six numbers. Then come the marks of its states, its starts, and its
  * steps in any order, each a list with commas, where '' is the empty one. On a refusal no file is written. From the repository's folder:
  *
- *     rt staticlib stutter
+ *     make library
  *     cc -I include examples/write.c target/staticlib/libstutter.a -o target/write
  *
  * and this is a table of two states with the marks 0 and 1, of which 0 is a start, and the steps 0-1 and 1-0:

@@ -1,5 +1,5 @@
 /* The judge and the two makers of stuttering certificates, the enquiry and the commit, the follower of runs and the writer of tables, for C. Link with
- * libstutter.a, which `rt staticlib stutter` writes to target/staticlib. */
+ * libstutter.a, which `make library` writes to target/staticlib. */
 #ifndef STUTTER_H
 #define STUTTER_H
 

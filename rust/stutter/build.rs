@@ -16,7 +16,7 @@ fn main() {
     if !library.is_file() {
         fail(
             "target/staticlib/libstutter.a is missing. \
-             Run `rt staticlib stutter` in the repository's folder, and then this again.",
+             Run `make library` in the repository's folder, and then this again.",
         );
     }
     println!("cargo:rustc-link-search=native={}", folder.display());

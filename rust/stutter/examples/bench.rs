@@ -385,7 +385,7 @@ fn listing(name: &'static str, system: &System) {
     let program = Path::new(env!("CARGO_MANIFEST_DIR")).join("../../target/bin/listing");
     assert!(
         program.is_file(),
-        "target/bin/listing is missing. Run `rt check listing` in the repository's folder."
+        "target/bin/listing is missing. Run `make programs` in the repository's folder."
     );
     let oracle_lister = env::current_exe().expect("this program has a path");
     let input = env::temp_dir().join(format!("stutter-bench-{}", process::id()));

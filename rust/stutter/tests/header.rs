@@ -370,16 +370,20 @@ fn commands(document: &str) -> String {
     commands
 }
 
-/// What `make examples` does, but for the library, which is there.
-fn make_examples() -> String {
+/// The commands that `make` has for this target.
+fn made_by(target: &str) -> String {
     let output = Command::new("make")
-        .args(["--dry-run", "--no-print-directory", "examples"])
+        .args(["--dry-run", "--no-print-directory", target])
         .current_dir(repository())
         .env_remove("MAKEFLAGS")
         .output();
-    let commands = printed_by(&output.expect("make starts"));
-    let library = "rt staticlib stutter\n";
-    let examples = commands.strip_prefix(library);
+    printed_by(&output.expect("make starts"))
+}
+
+/// What `make examples` does, but for the library, which is there.
+fn make_examples() -> String {
+    let commands = made_by("examples");
+    let examples = commands.strip_prefix(&made_by("library"));
     examples.expect("the library comes first").to_string()
 }
 

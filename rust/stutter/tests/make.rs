@@ -20,19 +20,19 @@ fn make_and_judge(left: &[u8], right: &[u8], relation: &[u8], output: &mut [u8])
 }
 
 #[test]
-fn the_makers_equal_the_oracle() {
+fn the_maker_equals_the_oracle() {
     compare::make(100_000, 25, make_and_judge).require_all();
 }
 
 /// As many files without keys alone: they keep their answers.
 #[test]
-fn the_makers_equal_the_oracle_without_keys() {
+fn the_maker_equals_the_oracle_without_keys() {
     compare::make_in(VERSIONS, 100_000, 29, make_and_judge).require_all();
 }
 
 /// As many files with marks of 16 bits alone: they keep their answers.
 #[test]
-fn the_makers_equal_the_oracle_on_older_versions() {
+fn the_maker_equals_the_oracle_on_older_versions() {
     compare::make_in(&[1, 2, 3], 100_000, 24, make_and_judge).require_all();
 }
 

@@ -51,13 +51,13 @@ fn repository() -> PathBuf {
 }
 
 impl Program {
-    /// Where `rt` puts the built program.
+    /// Where `make` puts the built program.
     fn path(&self) -> PathBuf {
         let name = self.name;
         let path = repository().join("target/bin").join(name);
         assert!(
             path.is_file(),
-            "target/bin/{name} is missing. Run `rt check {name}` in the repository's folder."
+            "target/bin/{name} is missing. Run `make programs` in the repository's folder."
         );
         path
     }
