@@ -12,6 +12,7 @@ pub mod PathMatchingLaws
 pub mod StandingLaws
 pub mod Equivalences
 pub mod Pigeonhole
+pub mod SideClauses
 pub mod Sides
 pub mod Literal
 pub mod NamjoshiTheorems

@@ -36,35 +36,13 @@ use Rattle.bisimulation.specs.Systems.{System, Step, View, flip, WellFormed, Pla
 use Rattle.bisimulation.proofs.ClauseLaws.{pairs-i, steps-i}
 use Rattle.bisimulation.proofs.Pigeonhole.{no_walk, pigeon}
 use Rattle.bisimulation.proofs.RunLaws.{matched-iff, chain-some}
+pub use Rattle.bisimulation.proofs.SideClauses.{Side2a, Side2b, Side2cOpen, Side2c, Met, OneSide}
 
 -- one of three clauses for one of three others
 pub clauses-map {κ λ'} : {A A' : Type 0} {B C : Type κ} {B' C' : Type λ'} → (A → A') → (B → B') → (C → A' ⊎ B' ⊎ C') → A ⊎ B ⊎ C → A' ⊎ B' ⊎ C'
 clauses-map f g h (inl a) = inl (f a)
 clauses-map f g h (inr (inl b)) = inr (inl (g b))
 clauses-map f g h (inr (inr c)) = h c
-
--- the paper's clauses for an own state s, its step to u, and a state t of the other
-module _ {ℓ κ} (v : View) {W : Type ℓ} (≺ : W → W → Type κ) (ρ : State v.own → State v.own → State v.other → W) where
-  open v use {own, other, related}
-
-  abbrev pub Side2a : State own → State other → State own → Type 0
-  Side2a s t u = (x : State other) × Step other t.0 x.0 × T (related u.0 x.0)
-
-  abbrev pub Side2b : State own → State other → State own → Type κ
-  Side2b s t u = T (related u.0 t.0) × ≺ (ρ u u t) (ρ s s t)
-
-  abbrev pub Side2cOpen : State own → State other → State own → Type κ
-  Side2cOpen s t u = (x : State other) × Step other t.0 x.0 × T (related s.0 x.0) × ≺ (ρ u s x) (ρ u s t)
-
-  abbrev pub Side2c : State own → State other → State own → Type κ
-  Side2c s t u = (¬ T (related u.0 t.0)) × Side2cOpen s t u
-
-  -- clause 2, with the third clause left open
-  abbrev pub Met : (State own → State other → State own → Type κ) → State own → State other → State own → Type κ
-  Met Third s t u = Side2a s t u ⊎ Side2b s t u ⊎ Third s t u
-
-  abbrev pub OneSide : (State own → State other → State own → Type κ) → Type κ
-  OneSide Third = (s : State own) (t : State other) → T (related s.0 t.0) → (u : State own) → Step own s.0 u.0 → Met Third s t u
 
 -- the clauses of the joint system are the two sides' clauses
 module _ {ℓ κ} (v : View) {W : Type ℓ} (≺ : W → W → Type κ) (rank : (joint v).S → (joint v).S → (joint v).S → W) where
