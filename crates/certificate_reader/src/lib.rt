@@ -11,14 +11,14 @@ use refusals::{CertificateRefusal, RelationRefusal};
 use table_reader::magic_fits;
 
 // What reading a certificate gives.
-#[derive(Drop)]
+#[derive(Clone, Copy)]
 pub enum CertificateRead {
     Good(Sizes),
     Refused(CertificateRefusal),
 }
 
 // What reading a relation gives.
-#[derive(Drop)]
+#[derive(Clone, Copy)]
 pub enum RelationRead {
     Good(Sizes),
     Refused(RelationRefusal),

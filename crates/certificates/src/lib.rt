@@ -18,7 +18,7 @@ pub struct Sizes {
 }
 
 // Where the four runs of ranks begin in a certificate.
-#[derive(Drop)]
+#[derive(Clone, Copy)]
 pub struct Runs {
     pub al: usize,
     pub ar: usize,

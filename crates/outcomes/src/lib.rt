@@ -10,7 +10,7 @@ use tables::Head;
 use words::Row;
 
 // The clause that meets an obligation: 2a, 2b or 2c.
-#[derive(Drop)]
+#[derive(Clone, Copy)]
 pub enum Clause {
     Step,
     Stutter,
@@ -18,14 +18,14 @@ pub enum Clause {
 }
 
 // Why an obligation fails, document 01's cause: 18 or 19.
-#[derive(Drop)]
+#[derive(Clone, Copy)]
 pub enum Failure {
     Apart,
     Rank,
 }
 
 // The outcome of an obligation: the clause that meets it, with the smallest state of the other side that serves, or why it fails.
-#[derive(Drop)]
+#[derive(Clone, Copy)]
 pub enum Outcome {
     Met(Clause, usize),
     Failed(Failure),

@@ -32,7 +32,7 @@ abbrev pub Moved : ℕ → ℤ → Type 0
 Moved n (pos k) = k ≤ n
 Moved n (negsuc k) = k ≡ 0
 
--- A call of `read` that was lent n places answered r, and then the places held t: r is -1, or how many bytes it put. No contract can name a call, so this
+-- A call of `read` that was lent n places answered r, and then the places held t: r is -1, where it failed, or how many bytes it put. No contract can name a call, so this
 -- is only what the contract of `read` says of every call; the proof of the function whose body is the call, `standard_input::read_once`, is the one that
 -- makes it.
 pub data ReadCall (n : ℕ) (r : ℤ) (t : List ℕ) : Type 0 where

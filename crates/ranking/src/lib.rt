@@ -37,7 +37,7 @@ pub struct Slip {
 }
 
 // What an enquiry gives: the six numbers, and the slip.
-#[derive(Drop)]
+#[derive(Clone, Copy)]
 pub struct Enquiry {
     pub answer: Answer,
     pub slip: Slip,
@@ -148,7 +148,7 @@ fn success(length: usize) -> Answer
 // The true slip of two tables with these headers and a relation.
 fn slip_for(left: &[u8], right: &[u8], relation: &[u8], heads: Heads) -> Slip
     ensures { result ≡ record {
-      left = length left.entry.now;
+      left = length left.now;
       right = length right.now;
       relation = length relation.now;
       certificate = certificate_length (sizes_for heads.left heads.right);

@@ -7,7 +7,7 @@ ghost use Rattle.refusals.specs.Refusals.{table_answer, certificate_answer, rela
 use answers::Answer;
 
 // Why a table is refused; the last three carry the first such step.
-#[derive(Drop)]
+#[derive(Clone, Copy)]
 pub enum TableRefusal {
     Short,
     Magic,
@@ -23,7 +23,7 @@ pub enum TableRefusal {
 }
 
 // Why a certificate is refused; the last carries the first such row.
-#[derive(Drop)]
+#[derive(Clone, Copy)]
 pub enum CertificateRefusal {
     Short,
     Magic,
@@ -34,7 +34,7 @@ pub enum CertificateRefusal {
 }
 
 // Why a relation is refused; the last carries the first such row.
-#[derive(Drop)]
+#[derive(Clone, Copy)]
 pub enum RelationRefusal {
     Length,
     RowBit(usize),

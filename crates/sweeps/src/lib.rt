@@ -13,7 +13,7 @@ use sides::{Side, first, label, next, related, states};
 use tables::Head;
 
 // How many obligations each clause has met.
-#[derive(Drop)]
+#[derive(Clone, Copy)]
 pub struct Tally {
     pub steps: usize,
     pub stutters: usize,
@@ -21,7 +21,7 @@ pub struct Tally {
 }
 
 // Whether the judge goes on, with the obligations counted so far, or stops with an answer.
-#[derive(Drop)]
+#[derive(Clone, Copy)]
 pub enum Progress {
     On(Tally),
     Stop(Answer),

@@ -16,7 +16,7 @@ pub struct Heads {
 }
 
 // What reading two tables gives.
-#[derive(Drop)]
+#[derive(Clone, Copy)]
 pub enum TablesRead {
     Good(Heads),
     Refused(Answer),

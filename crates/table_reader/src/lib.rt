@@ -27,7 +27,7 @@ pub enum Known {
 }
 
 // What reading a table gives.
-#[derive(Drop)]
+#[derive(Clone, Copy)]
 pub enum TableRead {
     Good(Head),
     Refused(TableRefusal),

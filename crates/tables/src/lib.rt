@@ -20,7 +20,7 @@ pub enum Format {
 }
 
 // Where the fields of a format stand and how wide they are. The first six bytes are the same in all, and the starts follow them.
-#[derive(Drop)]
+#[derive(Clone, Copy)]
 pub struct Layout {
     // The bytes of the header.
     pub header: usize,
