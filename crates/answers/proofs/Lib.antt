@@ -2,4 +2,4 @@
 pub mod DecideLaws
 pub mod CauseLaws
 pub mod VerdictLaws
-pub mod CheckedLaws
+pub mod ExitLaws

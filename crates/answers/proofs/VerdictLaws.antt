@@ -1,5 +1,6 @@
 -- Laws of verdicts: the first that refuses, along lists and over indices; verdicts that are decided by causes, so that a chain of tests in the order of
 -- its causes is decided by their list; and the output after a verdict. Assumes nothing.
+use Rattle.std.specs.Prelude.{Ok, Err}
 use Prim.Native.Nat.{ℕ, zero, suc, ◌≤◌, ◌<◌, zero-le, suc-le-suc}
 use mathlib.Core.Path.{◌≡◌, refl, sym, ap, ◌∙◌, subst}
 use mathlib.Core.Logic.{inl, inr}
@@ -16,20 +17,7 @@ use Rattle.lists.proofs.BelowLaws.{first_passes, first-least}
 use Rattle.lists.proofs.FillLaws.{put-front-fits, put-front-length}
 use Rattle.answers.specs.Numbers.{six_numbers}
 use Rattle.answers.specs.Causes.{Cause, ◌gives◌, only, room_causes, FirstCause, NoCause, Answers}
-use Rattle.answers.specs.Verdicts.{
-  Verdict,
-  go_on,
-  refused_with,
-  ◌and_then◌,
-  passed,
-  pass_if,
-  room_verdict,
-  along,
-  first_of,
-  first_in,
-  answer_of,
-  output_after,
-}
+use Rattle.answers.specs.Verdicts.{Verdict, ◌and_then◌, passed, pass_if, room_verdict, along, first_of, first_in, answer_of, output_after}
 use Rattle.answers.specs.declared.Answer.{Answer}
 use Rattle.answers.proofs.DecideLaws.{Decides, ltb-decides}
 use Rattle.answers.proofs.CauseLaws.{none-append, none_first, first-left, first-right, only_none, only_out, only-first}
@@ -37,18 +25,18 @@ use Rattle.answers.proofs.CauseLaws.{none-append, none_first, first-left, first-
 -- ---- one after the other
 
 pub then-cong : {A B : Type 0} (v : Verdict A) {f g : A → Verdict B} → ((x : A) → f x ≡ g x) → (v and_then f) ≡ (v and_then g)
-then-cong (go_on x) h = h x
-then-cong (refused_with a) h = refl
+then-cong (Ok x) h = h x
+then-cong (Err a) h = refl
 
 -- a verdict that goes on went on before
-pub then-on : {A B : Type 0} (v : Verdict A) {f : A → Verdict B} {y : B} → (v and_then f) ≡ go_on y → (x : A) × (v ≡ go_on x) × (f x ≡ go_on y)
-then-on (go_on x) e = (x, refl, e)
-then-on (refused_with a) e = absurd (let z : ◌≡◌ {A = ℕ} 0 1 = cc e in omega arith)
+pub then-on : {A B : Type 0} (v : Verdict A) {f : A → Verdict B} {y : B} → (v and_then f) ≡ Ok y → (x : A) × (v ≡ Ok x) × (f x ≡ Ok y)
+then-on (Ok x) e = (x, refl, e)
+then-on (Err a) e = absurd (let z : ◌≡◌ {A = ℕ} 0 1 = cc e in omega arith)
 
 -- a chain may be cut anywhere
 pub then-then : {A B C : Type 0} (v : Verdict A) (f : A → Verdict B) (g : B → Verdict C) → ((v and_then f) and_then g) ≡ (v and_then λ x. f x and_then g)
-then-then (go_on x) f g = refl
-then-then (refused_with a) f g = refl
+then-then (Ok x) f g = refl
+then-then (Err a) f g = refl
 
 pub along-map : {A B C : Type 0} (f : B → A → Verdict A) (g : C → B) (cs : List C) (x : A) → along f (map g cs) x ≡ along (λ c. f (g c)) cs x
 unfolding along
@@ -73,8 +61,8 @@ module _ {C : Type 0} (f : C → Verdict (Unit {0})) where
     where
       go : (v : Verdict (Unit {0})) → first_in f (cs ++ ys) ≡ (first_in f cs and_then λ x. first_in f ys)
           → (v and_then along (λ c x. f c) (cs ++ ys)) ≡ ((v and_then along (λ c x. f c) cs) and_then λ x. first_in f ys)
-      go (go_on x) e = e
-      go (refused_with a) e = refl
+      go (Ok x) e = e
+      go (Err a) e = refl
 
   pub in-join : (n : ℕ) (g : ℕ → List C) → first_in f (join_below n g) ≡ first_of n (λ i. first_in f (g i))
   unfolding along first_of join_below
@@ -90,9 +78,9 @@ module _ {C : Type 0} (f : C → Verdict (Unit {0})) where
   unfolding along
   in_one c = go (f c)
     where
-      go : (v : Verdict (Unit {0})) → (v and_then go_on) ≡ v
-      go (go_on x) = refl
-      go (refused_with a) = refl
+      go : (v : Verdict (Unit {0})) → (v and_then Ok) ≡ v
+      go (Ok x) = refl
+      go (Err a) = refl
 
 -- ---- over indices
 
@@ -106,7 +94,7 @@ unfolding first_of
 of_none zero f h = refl
 of_none (suc n) f h = then_same (h 0 (suc-le-suc zero-le)) (of_none n (λ i. f (suc i)) (λ i l. h (suc i) (suc-le-suc l)))
 
-pub of-hit : (n k : ℕ) (f : ℕ → Verdict (Unit {0})) (a : Answer) → k < n → ((i : ℕ) → i < k → f i ≡ passed) → f k ≡ refused_with a → first_of n f ≡ refused_with a
+pub of-hit : (n k : ℕ) (f : ℕ → Verdict (Unit {0})) (a : Answer) → k < n → ((i : ℕ) → i < k → f i ≡ passed) → f k ≡ Err a → first_of n f ≡ Err a
 unfolding first_of
 of-hit zero k f a l h e = absurd (not-suc-le-zero l)
 of-hit (suc n) zero f a l h e = ap (λ (v : Verdict (Unit {0})). v and_then λ x. first_of n (λ i. f (suc i))) e
@@ -114,8 +102,8 @@ of-hit (suc n) (suc k) f a l h e = then_same (h 0 (suc-le-suc zero-le)) (of-hit 
 
 -- where a test tells the refusals, the first index that passes it is the first refusal
 module _ (n : ℕ) (f : ℕ → Verdict (Unit {0})) (q : ℕ → Bool) (answer : ℕ → Answer)
-    (yes : (i : ℕ) → T (q i) → f i ≡ refused_with (answer i)) (no : (i : ℕ) → (T (q i) → ⊥) → f i ≡ passed) where
-  pub test-hit : {k : ℕ} → k ≡ first_below n q → k < n → first_of n f ≡ refused_with (answer k)
+    (yes : (i : ℕ) → T (q i) → f i ≡ Err (answer i)) (no : (i : ℕ) → (T (q i) → ⊥) → f i ≡ passed) where
+  pub test-hit : {k : ℕ} → k ≡ first_below n q → k < n → first_of n f ≡ Err (answer k)
   test-hit {k} e l =
       let h : first_below n q < n = rw (← e) l in
       rw e (of-hit n (first_below n q) f (answer (first_below n q)) h (λ i b. no i (first-least n q i b)) (yes (first_below n q) (first_passes n q h)))
@@ -127,8 +115,8 @@ module _ (n : ℕ) (f : ℕ → Verdict (Unit {0})) (q : ℕ → Bool) (answer :
 
 -- A verdict goes on, with something good, where no cause applies, and refuses with the numbers of the first that does.
 abbrev pub ByCauses : {A : Type 0} → (A → Type 0) → List Cause → Verdict A → Type 0
-ByCauses Good causes (go_on x) = Good x × NoCause causes
-ByCauses Good causes (refused_with answer) = FirstCause causes answer
+ByCauses Good causes (Ok x) = Good x × NoCause causes
+ByCauses Good causes (Err answer) = FirstCause causes answer
 
 pub record Decided {A : Type 0} (Good : A → Type 0) (causes : List Cause) (verdict : Verdict A) : Type 0 where
   pub by : ByCauses Good causes verdict
@@ -139,7 +127,7 @@ Anything x = Unit {0}
 
 module _ {A : Type 0} {Good : A → Type 0} where
   -- no test
-  pub decided-none : {x : A} → Good x → Decided Good [] (go_on x)
+  pub decided-none : {x : A} → Good x → Decided Good [] (Ok x)
   decided-none g = record { by = (g, tt) }
 
   -- the end of a chain
@@ -148,26 +136,26 @@ module _ {A : Type 0} {Good : A → Type 0} where
 
   -- a cause that does not apply
   later : {P : Type 0} {a : Answer} {cs : List Cause} (x : Verdict A) → ¬ P → Decided Good cs x → Decided Good (P gives a ∷ cs) x
-  later (go_on x) n d = record { by = (d.by.0, (n, d.by.1)) }
-  later (refused_with b) n d = record { by = inr (n, d.by) }
+  later (Ok x) n d = record { by = (d.by.0, (n, d.by.1)) }
+  later (Err b) n d = record { by = inr (n, d.by) }
 
   -- one test more; `on` is what becomes of the chain's result
   pub decided-test : {Y : Type 0} (on : Y → Verdict A) {test : Bool} (y z : Y) {P : Type 0} {a : Answer} {cs : List Cause}
-      → Decides test P → on y ≡ refused_with a
+      → Decides test P → on y ≡ Err a
       → Decided Good cs (on z) → Decided Good (P gives a ∷ cs) (on (cond test y z))
   decided-test on {test = true} y z {P} {a} {cs} d e rest = subst (Decided Good (P gives a ∷ cs)) (sym e) (record { by = inl (d.sound tt, refl) })
   decided-test on {test = false} y z d e rest = later (on z) d.complete rest
 
   -- the same of a test that the cause fails
   pub decided-unless : {Y : Type 0} (on : Y → Verdict A) (test : Bool) (y z : Y) {P : Type 0} {a : Answer} {cs : List Cause}
-      → Decides (not test) P → on y ≡ refused_with a
+      → Decides (not test) P → on y ≡ Err a
       → Decided Good cs (on z) → Decided Good (P gives a ∷ cs) (on (cond test z y))
   decided-unless on false y z {P} {a} {cs} d e rest = subst (Decided Good (P gives a ∷ cs)) (sym e) (record { by = inl (d.sound tt, refl) })
   decided-unless on true y z d e rest = later (on z) d.complete rest
 
   -- a search for the first index that passes
   pub decided-search : {Y : Type 0} (on : Y → Verdict A) (n : ℕ) (numbers : ℕ → Answer) (y : ℕ → Y) (z : Y) {test : ℕ → Bool} {P : ℕ → Type 0} {cs : List Cause}
-      → ((i : ℕ) → Decides (test i) (P i)) → ((i : ℕ) → on (y i) ≡ refused_with (numbers i)) → Decided Good cs (on z)
+      → ((i : ℕ) → Decides (test i) (P i)) → ((i : ℕ) → on (y i) ≡ Err (numbers i)) → Decided Good cs (on z)
       → Decided Good (join_below n (λ i. P i gives numbers i ∷ []) ++ cs) (on (cond (ltb (first_below n test) n) (y (first_below n test)) z))
   unfolding first_below join_below
   decided-search on zero numbers y z d r rest = rest
@@ -196,25 +184,25 @@ module _ {A : Type 0} {Good : A → Type 0} where
   decided-either on {P} {xs} {ys} true y z d e f = first (on y) e
     where
       first : (v : Verdict A) → Decided Good xs v → Decided Good (only P xs ++ only (¬ P) ys) v
-      first (go_on x) e = record { by = (e.by.0, none-append (only P xs) _ (only_none P xs e.by.1) (only_out (¬ P) ys (λ n. n (d.sound tt)))) }
-      first (refused_with a) e = record { by = first-left (only P xs) _ a (only-first P xs a (d.sound tt) e.by) }
+      first (Ok x) e = record { by = (e.by.0, none-append (only P xs) _ (only_none P xs e.by.1) (only_out (¬ P) ys (λ n. n (d.sound tt)))) }
+      first (Err a) e = record { by = first-left (only P xs) _ a (only-first P xs a (d.sound tt) e.by) }
   decided-either on {P} {xs} {ys} false y z d e f = second (on z) f
     where
       second : (v : Verdict A) → Decided Good ys v → Decided Good (only P xs ++ only (¬ P) ys) v
-      second (go_on x) f = record { by = (f.by.0, none-append (only P xs) _ (only_out P xs d.complete) (only_none (¬ P) ys f.by.1)) }
-      second (refused_with a) f = record { by = first-right (only P xs) _ a (only_out P xs d.complete) (only-first (¬ P) ys a d.complete f.by) }
+      second (Ok x) f = record { by = (f.by.0, none-append (only P xs) _ (only_out P xs d.complete) (only_none (¬ P) ys f.by.1)) }
+      second (Err a) f = record { by = first-right (only P xs) _ a (only_out P xs d.complete) (only-first (¬ P) ys a d.complete f.by) }
 
   -- where no cause applies, it goes on with something good
-  pub none-on : {causes : List Cause} (v : Verdict A) → Decided Good causes v → NoCause causes → (x : A) × (v ≡ go_on x) × Good x
-  none-on (go_on x) d n = (x, refl, d.by.0)
-  none-on {causes} (refused_with a) d n = absurd (none_first causes a n d.by)
+  pub none-on : {causes : List Cause} (v : Verdict A) → Decided Good causes v → NoCause causes → (x : A) × (v ≡ Ok x) × Good x
+  none-on (Ok x) d n = (x, refl, d.by.0)
+  none-on {causes} (Err a) d n = absurd (none_first causes a n d.by)
 
   -- where it goes on, no cause applies
-  pub on_none : {causes : List Cause} {v : Verdict A} {x : A} → v ≡ go_on x → Decided Good causes v → Good x × NoCause causes
+  pub on_none : {causes : List Cause} {v : Verdict A} {x : A} → v ≡ Ok x → Decided Good causes v → Good x × NoCause causes
   on_none {causes} e d = (subst (Decided Good causes) e d).by
 
   -- where it refuses, the first cause that applies has its numbers
-  pub refused-first : {causes : List Cause} {v : Verdict A} {a : Answer} → v ≡ refused_with a → Decided Good causes v → FirstCause causes a
+  pub refused-first : {causes : List Cause} {v : Verdict A} {a : Answer} → v ≡ Err a → Decided Good causes v → FirstCause causes a
   refused-first {causes} e d = (subst (Decided Good causes) e d).by
 
 -- one test: of the cause, and of what the cause fails; and the room of an output
@@ -228,28 +216,28 @@ decided-fits false d = record { by = inl (d.complete, refl) }
 
 pub room-decided : (needed : ℕ) (output : List ℕ) → Decided Anything (room_causes needed output) (room_verdict needed (length output))
 unfolding room_verdict
-room-decided needed output = decided-test (λ x. x) (refused_with (six_numbers 21 3 needed)) passed (ltb-decides (length output) needed) refl (decided-none tt)
+room-decided needed output = decided-test (λ x. x) (Err (six_numbers 21 3 needed)) passed (ltb-decides (length output) needed) refl (decided-none tt)
 
 -- something else is known of what was found
 pub decided-as : {A : Type 0} {Good Fine : A → Type 0} {causes : List Cause} (v : Verdict A)
     → ((x : A) → Good x → Fine x) → Decided Good causes v → Decided Fine causes v
-decided-as (go_on x) f d = record { by = (f x d.by.0, d.by.1) }
-decided-as (refused_with a) f d = record { by = d.by }
+decided-as (Ok x) f d = record { by = (f x d.by.0, d.by.1) }
+decided-as (Err a) f d = record { by = d.by }
 
 pub decided-go : {A B : Type 0} {Good : A → Type 0} {causes : List Cause} (v : Verdict A) (g : A → B)
-    → Decided Good causes v → Decided Anything causes (v and_then λ x. go_on (g x))
-decided-go (go_on x) g d = record { by = (tt, d.by.1) }
-decided-go (refused_with a) g d = record { by = d.by }
+    → Decided Good causes v → Decided Anything causes (v and_then λ x. Ok (g x))
+decided-go (Ok x) g d = record { by = (tt, d.by.1) }
+decided-go (Err a) g d = record { by = d.by }
 
 -- a chain after another: it is handed what the first found, and that no cause of the first applies
 pub decided-then : {A B : Type 0} {Good : A → Type 0} {Fine : B → Type 0} {xs ys : List Cause} (v : Verdict A) {next : A → Verdict B} → Decided Good xs v
     → ((x : A) → Good x → NoCause xs → Decided Fine ys (next x)) → Decided Fine (xs ++ ys) (v and_then next)
-decided-then {xs = xs} {ys = ys} (refused_with a) d rest = record { by = first-left xs ys a d.by }
-decided-then {B = B} {Fine = Fine} {xs = xs} {ys = ys} (go_on x) {next} d rest = go (next x) (rest x d.by.0 d.by.1)
+decided-then {xs = xs} {ys = ys} (Err a) d rest = record { by = first-left xs ys a d.by }
+decided-then {B = B} {Fine = Fine} {xs = xs} {ys = ys} (Ok x) {next} d rest = go (next x) (rest x d.by.0 d.by.1)
   where
     go : (w : Verdict B) → Decided Fine ys w → Decided Fine (xs ++ ys) w
-    go (go_on z) e = record { by = (e.by.0, none-append xs ys d.by.1 e.by.1) }
-    go (refused_with a) e = record { by = first-right xs ys a d.by.1 e.by }
+    go (Ok z) e = record { by = (e.by.0, none-append xs ys d.by.1 e.by.1) }
+    go (Err a) e = record { by = first-right xs ys a d.by.1 e.by }
 
 -- one after the other along a list, and over indices
 pub decided-along : {A C : Type 0} (causes : C → List Cause) (f : C → A → Verdict A)
@@ -268,9 +256,9 @@ decided-below (suc n) causes f d = decided-then (f 0) (d 0) (λ y g m. decided-b
 -- the answer at the end
 pub decided-answer : {A : Type 0} {Good : A → Type 0} {causes : List Cause} (Success : Answer → Type 0) (success : A → Answer) (v : Verdict A)
     → Decided Good causes v
-    → ((x : A) → v ≡ go_on x → NoCause causes → Success (success x)) → Answers causes Success (answer_of success v)
-decided-answer Success success (go_on x) d g = inr (d.by.1, g x refl d.by.1)
-decided-answer Success success (refused_with a) d g = inl d.by
+    → ((x : A) → v ≡ Ok x → NoCause causes → Success (success x)) → Answers causes Success (answer_of success v)
+decided-answer Success success (Ok x) d g = inr (d.by.1, g x refl d.by.1)
+decided-answer Success success (Err a) d g = inl d.by
 
 -- ---- the output after a verdict
 
@@ -278,16 +266,16 @@ module _ {A : Type 0} where
   -- a refusal leaves it as it was
   pub refused-output : (success : A → Answer) → ((x : A) → (success x).code ≡ 0) → (v : Verdict A) → ¬ ((answer_of success v).code ≡ 0)
       → (bytes output : List ℕ) → output_after v bytes output ≡ output
-  refused-output success zeroed (go_on x) n bytes output = absurd (n (zeroed x))
-  refused-output success zeroed (refused_with a) n bytes output = refl
+  refused-output success zeroed (Ok x) n bytes output = absurd (n (zeroed x))
+  refused-output success zeroed (Err a) n bytes output = refl
 
   -- a verdict that goes on puts the bytes at its front, where they have room
-  pub output_on : {v : Verdict A} {x : A} → v ≡ go_on x → (bytes output : List ℕ) {k : ℕ} → length bytes ≡ k → k ≤ length output
+  pub output_on : {v : Verdict A} {x : A} → v ≡ Ok x → (bytes output : List ℕ) {k : ℕ} → length bytes ≡ k → k ≤ length output
       → output_after v bytes output ≡ bytes ++ drop k output
   output_on e bytes output l h =
       ap (λ (v : Verdict A). output_after v bytes output) e ∙ put-front-fits bytes output (rw l h) ∙ ap (λ (n : ℕ). bytes ++ drop n output) l
 
   -- and its length stays
   pub output-length : (v : Verdict A) (bytes output : List ℕ) → length (output_after v bytes output) ≡ length output
-  output-length (go_on x) bytes output = put-front-length bytes output
-  output-length (refused_with a) bytes output = refl
+  output-length (Ok x) bytes output = put-front-length bytes output
+  output-length (Err a) bytes output = refl

@@ -1,5 +1,6 @@
 -- What good reads say: of a certificate and of a relation their length and that no row has a bit n2 or more; of two tables and rows that the theory's
 -- view is well formed. Assumes nothing.
+use Rattle.std.specs.Prelude.{Ok}
 use Prim.Native.Nat.{ℕ, ◌*◌, ◌≤◌, ◌<◌}
 use mathlib.Core.Path.{◌≡◌}
 use mathlib.Core.Bool.{Bool}
@@ -15,7 +16,6 @@ use Rattle.tables.specs.declared.Head.{Head}
 use Rattle.tables.specs.Table.{states_of, steps_of, key_in}
 use Rattle.tables.specs.Model.{system_of}
 use Rattle.answers.specs.Numbers.{six_numbers}
-use Rattle.table_reader.specs.declared.TableRead.TheVariants as table
 use Rattle.table_reader.specs.TableReading.{read_table}
 use Rattle.answers.proofs.DecideLaws.{decides-stable, eqb-decides}
 use Rattle.answers.proofs.CauseLaws.{below_none}
@@ -25,8 +25,6 @@ use Rattle.certificates.specs.Layout.{sizes_for, sizes_of, certificate_length, r
 use Rattle.certificates.specs.CertificateModel.{AreBytes, related_in, view_of}
 use Rattle.certificates.proofs.LayoutLaws.{length-limit}
 use Rattle.certificates.proofs.ModelLaws.{related-left, related-bit, row_word_lem, quiet-keys}
-use Rattle.certificate_reader.specs.declared.CertificateRead.TheVariants as read
-use Rattle.certificate_reader.specs.declared.RelationRead.TheVariants as relations
 use Rattle.certificate_reader.specs.CertificateReading.{read_certificate, read_relation}
 use Rattle.certificate_reader.specs.CertificateCauses.{HasWideBit}
 use Rattle.certificate_reader.proofs.CertificateCauseLaws.{certificate-good-none, relation-good-none}
@@ -41,7 +39,7 @@ pub record CertificateOk (z : Sizes) (c : List ℕ) : Type 0 where
   pub long : length c ≡ certificate_length z
   pub narrow : NoWideRow (rows_part c z) z.n1 z.n2
 
-pub certificate-ok : (z : Sizes) (c : List ℕ) {y : Sizes} → read_certificate z c ≡ read.Good y → (y ≡ z) × CertificateOk z c
+pub certificate-ok : (z : Sizes) (c : List ℕ) {y : Sizes} → read_certificate z c ≡ Ok y → (y ≡ z) × CertificateOk z c
 certificate-ok z c e =
     let g = certificate-good-none 2 z c e in (
       g.0,
@@ -55,7 +53,7 @@ pub record RelationOk (z : Sizes) (r : List ℕ) : Type 0 where
   pub long : length r ≡ 8 * z.n1
   pub narrow : NoWideRow r z.n1 z.n2
 
-pub relation-ok : (z : Sizes) (r : List ℕ) {y : Sizes} → read_relation z r ≡ relations.Good y → (y ≡ z) × RelationOk z r
+pub relation-ok : (z : Sizes) (r : List ℕ) {y : Sizes} → read_relation z r ≡ Ok y → (y ≡ z) × RelationOk z r
 relation-ok z r e =
     let g = relation-good-none 2 z r e in (
       g.0,
@@ -66,7 +64,7 @@ relation-ok z r e =
     )
 
 -- a certificate of two tables that are read has at most 41,483 bytes
-pub certificate-limit : (left right : List ℕ) {h k : Head} → read_table left ≡ table.Good h → read_table right ≡ table.Good k
+pub certificate-limit : (left right : List ℕ) {h k : Head} → read_table left ≡ Ok h → read_table right ≡ Ok k
     → certificate_length (sizes_of left right) ≤ 41483
 unfolding sizes_of
 certificate-limit left right l r =
@@ -75,7 +73,7 @@ certificate-limit left right l r =
     length-limit (sizes_of left right) a.states-le b.states-le a.steps-le b.steps-le
 
 -- the sizes that two headers give are those that the bytes give
-pub sizes-are : (left right : List ℕ) {h k : Head} → read_table left ≡ table.Good h → read_table right ≡ table.Good k → sizes_for h k ≡ sizes_of left right
+pub sizes-are : (left right : List ℕ) {h k : Head} → read_table left ≡ Ok h → read_table right ≡ Ok k → sizes_for h k ≡ sizes_of left right
 unfolding sizes_of
 sizes-are left right l r =
     let a = table-ok left l in
@@ -114,7 +112,7 @@ unfolding system_of
 side-formed s other related serves f r q = record { from< = f.from<; to< = f.to<; related< = r; initial< = f.initial<; quiet = q }
 
 module _ (left right rows : List ℕ) where
-  pub view-formed : {h k : Head} → read_table left ≡ table.Good h → read_table right ≡ table.Good k → AreBytes rows
+  pub view-formed : {h k : Head} → read_table left ≡ Ok h → read_table right ≡ Ok k → AreBytes rows
       → NoWideRow rows (states_of left) (states_of right) → WellFormed (view_of left right rows)
   unfolding view_of
   view-formed l r bytes narrow =

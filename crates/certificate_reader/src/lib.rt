@@ -2,7 +2,7 @@
 #![tactic(auto)]
 
 ghost use Rattle.std.specs.Prelude.{◌≡◌};
-ghost use Rattle.lists.specs.Below.{first_below};
+ghost use Rattle.lists.specs.Below.{found_below};
 ghost use Rattle.certificate_reader.specs.CertificateReading.{certificate_sizes_fit, wide_row, read_header, read_certificate, read_relation};
 
 use certificates::{Sizes, row, rows};
@@ -10,101 +10,71 @@ use lists::{byte, read_be16};
 use refusals::{CertificateRefusal, RelationRefusal};
 use table_reader::magic_fits;
 
-// What reading a certificate gives.
-#[derive(Clone, Copy)]
-pub enum CertificateRead {
-    Good(Sizes),
-    Refused(CertificateRefusal),
-}
-
-// What reading a relation gives.
-#[derive(Clone, Copy)]
-pub enum RelationRead {
-    Good(Sizes),
-    Refused(RelationRefusal),
-}
-
-// The first of n1 rows that has a bit n2 or more, and n1 where there is none.
-fn first_wide_row(rows: &[u8], n1: usize, n2: usize) -> usize
-    ensures { result ≡ first_below n1 (wide_row rows.now n2) }
+// The first of n1 rows that has a bit n2 or more.
+fn first_wide_row(rows: &[u8], n1: usize, n2: usize) -> Option<usize>
+    ensures { result ≡ found_below n1 (wide_row rows.now n2) }
 {
-    let mut s: usize = 0;
-    while s < n1 {
-        let word = row(rows, s);
-        if word.has_from(n2) {
-            return s;
-        }
-        s += 1;
-    }
-    n1
+    (0..n1).find(|&s| row(rows, s).has_from(n2))
 }
 
 // Whether the header has these sizes.
+#[tactic(auto, unfolding(crate::specs::CertificateReading::certificate_sizes_fit))]
 fn sizes_fit(certificate: &[u8], sizes: Sizes) -> bool
     ensures { result ≡ certificate_sizes_fit sizes certificate.now }
 {
-    if byte(certificate, 5) != sizes.n1 as usize {
-        return false;
-    }
-    if byte(certificate, 6) != sizes.n2 as usize {
-        return false;
-    }
-    if read_be16(certificate, 7) != sizes.m1 as u64 {
-        return false;
-    }
-    read_be16(certificate, 9) == sizes.m2 as u64
+    byte(certificate, 5) == usize::from(sizes.n1)
+        && byte(certificate, 6) == usize::from(sizes.n2)
+        && read_be16(certificate, 7) == u64::from(sizes.m1)
+        && read_be16(certificate, 9) == u64::from(sizes.m2)
 }
 
 // Causes 10 to 14.
-fn read_header(certificate: &[u8], sizes: Sizes) -> CertificateRead
+#[tactic(auto, unfolding(crate::specs::CertificateReading::read_header))]
+fn read_header(certificate: &[u8], sizes: Sizes) -> Result<Sizes, CertificateRefusal>
     ensures { result ≡ read_header sizes certificate.now }
 {
     if certificate.len() < Sizes::HEADER {
-        return CertificateRead::Refused(CertificateRefusal::Short);
+        return Err(CertificateRefusal::Short);
     }
     if !magic_fits(certificate, Sizes::CERTIFICATE) {
-        return CertificateRead::Refused(CertificateRefusal::Magic);
+        return Err(CertificateRefusal::Magic);
     }
     if read_be16(certificate, 3) != Sizes::VERSION {
-        return CertificateRead::Refused(CertificateRefusal::Version);
+        return Err(CertificateRefusal::Version);
     }
     if !sizes_fit(certificate, sizes) {
-        return CertificateRead::Refused(CertificateRefusal::Sizes);
+        return Err(CertificateRefusal::Sizes);
     }
     if certificate.len() != sizes.length() {
-        return CertificateRead::Refused(CertificateRefusal::Length);
+        return Err(CertificateRefusal::Length);
     }
-    CertificateRead::Good(sizes)
+    Ok(sizes)
 }
 
 // Causes 10 to 15, in this order: the sizes of the certificate, or its refusal.
-pub fn read_certificate(certificate: &[u8], sizes: Sizes) -> CertificateRead
+#[tactic(auto, unfolding(crate::specs::CertificateReading::read_certificate, crate::specs::CertificateReading::read_rows))]
+pub fn read_certificate(certificate: &[u8], sizes: Sizes) -> Result<Sizes, CertificateRefusal>
     ensures { result ≡ read_certificate sizes certificate.now }
 {
-    let read = read_header(certificate, sizes);
-    let CertificateRead::Good(found) = read else {
-        return read;
-    };
+    let found = read_header(certificate, sizes)?;
     let rows = rows(certificate, found);
-    let n1 = found.n1 as usize;
-    let wide = first_wide_row(rows, n1, found.n2 as usize);
-    if wide < n1 {
-        return CertificateRead::Refused(CertificateRefusal::RowBit(wide));
+    match first_wide_row(rows, usize::from(found.n1), usize::from(found.n2)) {
+        Some(s) => Err(CertificateRefusal::RowBit(s)),
+        None => Ok(found),
     }
-    read
 }
 
 // Causes 20 and 15, in this order: the sizes of the relation, or its refusal.
-pub fn read_relation(relation: &[u8], sizes: Sizes) -> RelationRead
+#[tactic(auto, unfolding(crate::specs::CertificateReading::read_relation))]
+pub fn read_relation(relation: &[u8], sizes: Sizes) -> Result<Sizes, RelationRefusal>
     ensures { result ≡ read_relation sizes relation.now }
 {
-    let n1 = sizes.n1 as usize;
+    let n1 = usize::from(sizes.n1);
     if relation.len() != Sizes::ROW * n1 {
-        return RelationRead::Refused(RelationRefusal::Length);
+        return Err(RelationRefusal::Length);
     }
-    let wide = first_wide_row(relation, n1, sizes.n2 as usize);
-    if wide < n1 {
-        return RelationRead::Refused(RelationRefusal::RowBit(wide));
+    match first_wide_row(relation, n1, usize::from(sizes.n2)) {
+        Some(s) => Err(RelationRefusal::RowBit(s)),
+        None => Ok(sizes),
     }
-    RelationRead::Good(sizes)
 }

@@ -6,11 +6,12 @@ use Rattle.table_reader.specs.TableReading.{head_of}
 use Rattle.certificates.specs.declared.Sizes.{Sizes}
 use Rattle.certificates.specs.Layout.{sizes_for, rows_part}
 use Rattle.relation_words.specs.Relation.{row_words, column_words}
+use Rattle.sides.specs.declared.Side.{Side}
 use Rattle.sides.specs.Built.{SideOf}
 use Rattle.certified_sides.specs.declared.Sides.{Sides}
 
 -- The sides are made of headers, labels, steps and words, as the code makes them.
-pub record SidesMade (left right c : List ℕ) (h k : Head) (z : Sizes) (words ours theirs : List ℕ) : Type 0 where
+pub record SidesMade (left right c : List ℕ) (h k : Head) (z : Sizes) (words : List ℕ) (ours theirs : Side) : Type 0 where
   pub rows : List ℕ
   pub columns : List ℕ
   pub labels : List ℕ

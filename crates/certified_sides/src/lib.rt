@@ -5,7 +5,7 @@ ghost use Rattle.certified_sides.specs.Made.{CertifiedSides};
 
 use certificates::{Sizes, rows};
 use relation_words::{column_words, row_words};
-use sides::{Side, side_of};
+use sides::Side;
 use table_reader::head_of;
 use tables::{labels, steps};
 
@@ -26,8 +26,8 @@ pub fn sides_of(left: &[u8], right: &[u8], certificate: &[u8]) -> Sides
     let sizes = Sizes::of(head, head2);
     let words = row_words(rows(certificate, sizes), sizes.n1 as usize);
     let columns = column_words(&words);
-    let ours = side_of(head, labels(left), steps(left), &words);
-    let theirs = side_of(head2, labels(right), steps(right), &columns);
+    let ours = Side::of(head, labels(left), steps(left), &words);
+    let theirs = Side::of(head2, labels(right), steps(right), &columns);
     Sides {
         ours,
         theirs,

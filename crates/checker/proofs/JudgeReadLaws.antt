@@ -1,6 +1,7 @@
 -- Where two tables and a certificate are read, the judge's answer is that of the theory's checks of the view and ranks that the bytes give. Assumes nothing.
+use Rattle.std.specs.Prelude.{Ok, Err}
 use Prim.Native.Nat.{ℕ}
-use mathlib.Core.Path.{◌≡◌, sym, ap, ap₂, ◌∙◌}
+use mathlib.Core.Path.{◌≡◌, refl, ap, ap₂, ◌∙◌}
 use mathlib.Core.List.{List, map}
 use lib.ListN.{get_or}
 use Rattle.lists.specs.Below.{sum_below}
@@ -12,37 +13,28 @@ use Rattle.table_reader.proofs.TableLaws.{table-ok}
 use Rattle.certificates.specs.declared.Sizes.{Sizes}
 use Rattle.certificates.specs.Layout.{sizes_of, rows_part}
 use Rattle.certificates.specs.CertificateModel.{AreBytes, certified_view, certified_ranks}
-use Rattle.answers.specs.Verdicts.{along, answer_of, as_checked}
-use Rattle.answers.specs.declared.Answer.{Answer}
+use Rattle.answers.specs.Verdicts.{Verdict, ◌and_then◌, along, answer_of}
 use Rattle.relation_words.proofs.RelationLaws.{rows-ones}
 use Rattle.certified_sides.specs.Made.{SidesMade}
 use Rattle.starts.specs.StartsNamed.{starts_named}
-use Rattle.answers.specs.declared.Checked.{Checked}
-use Rattle.answers.specs.declared.Checked.TheVariants.{Passed, Refused}
-use Rattle.obligations.specs.declared.Run.{Run}
 use Rattle.obligations.specs.Judging.{checks, check_verdict}
 use Rattle.starts.specs.StartsVerdict.{starts_verdict, starts_in}
 use Rattle.obligations.specs.OnSides.{left_run, right_run}
-use Rattle.answers.proofs.CheckedLaws.{was-passed, was-refused}
 use Rattle.starts.proofs.OnSidesLaws.{starts-in}
+use Rattle.sweeps.specs.declared.Tally.{Tally}
 use Rattle.sweeps.specs.Tallies.{none, tallied, acceptance}
 use Rattle.sweeps.specs.SideVerdicts.{progress, end_answer, all_verdicts}
 use Rattle.sweeps.proofs.ProgressLaws.{end-answer}
 use Rattle.sweeps.proofs.SideVerdictLaws.{verdicts-are}
+use Rattle.checker.specs.OnSides.{sides_verdict}
 use Rattle.checker.specs.Judge.{AllRead, pairs_in, judged, judged_bytes, read_answer}
 use Rattle.checker.proofs.SidesReadLaws.{SidesRead, made-sizes, made-words, sides-read}
+use Rattle.sides.specs.declared.Side.{Side}
 
 -- ---- two tables and a certificate that are read
 
--- The judge's answer, from two sides and the test of the starts: 16 where it is refused, and the answer after all checks where it passes.
-pub record AnswersAs (left right c : List ℕ) (z : Sizes) (words ours theirs : List ℕ) (starts : Checked) : Type 0 where
-  pub refused : {answer : Answer} → starts ≡ Refused answer → answer ≡ read_answer left right c
-  pub passed : {pairs : ℕ} {own other : Run} → starts ≡ Passed → own ≡ left_run z → other ≡ right_run z → pairs ≡ sum_below 64 (λ s. count_bits (get_or words s 0))
-      → end_answer pairs (progress (all_verdicts ours theirs c own other) none)
-      ≡ read_answer left right c
-
-module _ (left right c : List ℕ) {h k : Head} (read : AllRead left right c h k) (bytes : AreBytes c) {z : Sizes} {words ours theirs : List ℕ}
-    (made : SidesMade left right c h k z words ours theirs) {starts : Checked} (es : starts ≡ as_checked (starts_in ours theirs)) where
+module _ (left right c : List ℕ) {h k : Head} (read : AllRead left right c h k) (bytes : AreBytes c) {z : Sizes} {words : List ℕ} {ours theirs : Side}
+    (made : SidesMade left right c h k z words ours theirs) where
   abbrev view : View
   view = certified_view left right c
 
@@ -70,12 +62,15 @@ module _ (left right c : List ℕ) {h k : Head} (read : AllRead left right c h k
       e ∙ ap (λ (x : List ℕ). sum_below 64 (λ s. count_bits (get_or x s 0))) (made-words left right c read made)
       ∙ rows-ones (rows_part c (sizes_of left right)) (states_of left) (table-ok left read.left-good).states-le
 
-  pub answers : AnswersAs left right c z words ours theirs starts
-  unfolding judged_bytes judged
-  answers =
-      record {
-        refused = λ q. sym (rw (sym starts-are ∙ was-refused _ _ (sym es ∙ q)));
-        passed = λ q e e' ep.
-            rw (sym starts-are ∙ was-passed _ (sym es ∙ q), pairs-are ep, e, e', made-sizes left right c read made)
-            (end_is (pairs_in (rows_part c (sizes_of left right)) (states_of left)));
-      }
+  -- the judge's answer, from the two sides
+  pub answers : {pairs : ℕ} → pairs ≡ sum_below 64 (λ s. count_bits (get_or words s 0)) → end_answer pairs (sides_verdict ours theirs c z) ≡ read_answer left right c
+  unfolding sides_verdict judged_bytes judged
+  answers {pairs} ep =
+      rw (starts-are, pairs-are ep, made-sizes left right c read made)
+      (after _ _ _ (starts_verdict view (starts_named left right)) (end_is (pairs_in (rows_part c (sizes_of left right)) (states_of left))))
+    where
+      -- a refusal of the starts answers, and else what comes after them
+      after : (n : ℕ) (here there : Verdict Tally) (starts : Verdict (Unit {0})) → end_answer n here ≡ answer_of (acceptance n) there
+          → end_answer n (starts and_then λ x. here) ≡ answer_of (acceptance n) (starts and_then λ x. there)
+      after n here there (Ok x) e = e
+      after n here there (Err a) e = refl

@@ -14,6 +14,7 @@ use Rattle.certificates.proofs.ModelLaws.{rows-bytes}
 use Rattle.certificate_reader.proofs.CertificateLaws.{certificate-ok, sizes-are, view-formed}
 use Rattle.relation_words.specs.Relation.{row_words, column_words}
 use Rattle.starts.specs.StartsNamed.{starts_named, starts_named_in}
+use Rattle.sides.specs.declared.Side.{Side}
 use Rattle.sides.specs.Views.{view_in}
 use Rattle.sides.specs.Built.{SideOf, PlainSide}
 use Rattle.sides.proofs.PlainLaws.{side-plain}
@@ -25,7 +26,7 @@ use Rattle.obligations.proofs.OnSidesLaws.{Holding}
 use Rattle.checker.specs.Judge.{AllRead}
 
 -- They hold what the bytes give.
-pub record SidesRead (left right c ours theirs : List ℕ) : Type 0 where
+pub record SidesRead (left right c : List ℕ) (ours theirs : Side) : Type 0 where
   pub here : view_in ours theirs ≡ certified_view left right c
   pub named : starts_named_in ours theirs ≡ starts_named left right
   pub holding : Holding ours theirs c (left_run (sizes_of left right)) (right_run (sizes_of left right)) (certified_ranks left right c)
@@ -37,7 +38,7 @@ module _ (left right c : List ℕ) {h k : Head} (read : AllRead left right c h k
       view-formed left right (rows_part c (sizes_of left right)) read.left-good read.right-good (rows-bytes (sizes_of left right) c bytes)
       (certificate-ok (sizes_of left right) c read.certificate-good).1.narrow
 
-  module _ {z : Sizes} {words ours theirs : List ℕ} (made : SidesMade left right c h k z words ours theirs) where
+  module _ {z : Sizes} {words : List ℕ} {ours theirs : Side} (made : SidesMade left right c h k z words ours theirs) where
     pub made-sizes : z ≡ sizes_of left right
     made-sizes = made.sizes-is ∙ sizes-are left right read.left-good read.right-good
 

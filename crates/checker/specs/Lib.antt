@@ -1,2 +1,3 @@
 pub mod Judge
 pub mod JudgeCauses
+pub mod OnSides

@@ -1,5 +1,6 @@
 -- Ask 8 of document 02, `enquiry-exact`, `commit-exact` and `committed`: the enquiry answers as the maker does where there is room, and with its slip the
 -- commit is the maker or is refused. Assumes nothing.
+use Rattle.std.specs.Prelude.{Ok, Err}
 use Prim.Native.Nat.{ℕ, ◌≤◌, ◌<◌}
 use mathlib.Core.Path.{◌≡◌, refl, sym, ap, ◌∙◌, subst}
 use mathlib.Core.Logic.{◌⊎◌, inl, inr, ⊎_elim, ◌↔◌}
@@ -11,7 +12,7 @@ use lib.ListN.{length}
 use Rattle.lists.proofs.BoolLaws.{or-e}
 use Rattle.answers.specs.Numbers.{six_numbers}
 use Rattle.answers.specs.Causes.{FirstCause, NoCause, Answers}
-use Rattle.answers.specs.Verdicts.{Verdict, go_on, refused_with, passed}
+use Rattle.answers.specs.Verdicts.{Verdict, passed}
 use Rattle.answers.specs.declared.Answer.{Answer}
 use Rattle.answers.proofs.CauseLaws.{append-none, refused-iff, zero-none}
 use Rattle.answers.proofs.DecideLaws.{eqb-decides, ltb-decides, decides-true, decides-false, decides-either, decides-stable}
@@ -45,27 +46,27 @@ apart k r e =
 
 -- one of them is not read, or all are and the examination passes or refuses
 data Outcome (left right relation : List ℕ) : Type 0 where
-  unread : (a : Answer) → read_verdict left right relation ≡ refused_with a → OfReading a → Outcome left right relation
-  passing : (h : Heads) → read_verdict left right relation ≡ go_on h → examined_verdict left right relation ≡ passed → Outcome left right relation
-  refusing : (h : Heads) (a : Answer) → read_verdict left right relation ≡ go_on h → examined_verdict left right relation ≡ refused_with a
+  unread : (a : Answer) → read_verdict left right relation ≡ Err a → OfReading a → Outcome left right relation
+  passing : (h : Heads) → read_verdict left right relation ≡ Ok h → examined_verdict left right relation ≡ passed → Outcome left right relation
+  refusing : (h : Heads) (a : Answer) → read_verdict left right relation ≡ Ok h → examined_verdict left right relation ≡ Err a
       → OfExamination a → Outcome left right relation
 
 module _ (left right relation : List ℕ) (bytes : AreBytes relation) where
-  none-input : {h : Heads} → read_verdict left right relation ≡ go_on h → NoCause (input_causes left right relation)
+  none-input : {h : Heads} → read_verdict left right relation ≡ Ok h → NoCause (input_causes left right relation)
   none-input e = (on_none e (inputs-decided left right relation)).1
 
   outcome : Outcome left right relation
   outcome = by-reading (read_verdict left right relation) refl
     where
-      by-examination : (h : Heads) → read_verdict left right relation ≡ go_on h → (v : Verdict (Unit {0})) → examined_verdict left right relation ≡ v
+      by-examination : (h : Heads) → read_verdict left right relation ≡ Ok h → (v : Verdict (Unit {0})) → examined_verdict left right relation ≡ v
           → Outcome left right relation
-      by-examination h e (go_on x) f = passing h e f
-      by-examination h e (refused_with a) f =
+      by-examination h e (Ok x) f = passing h e f
+      by-examination h e (Err a) f =
           refusing h a e f (examination-first left right relation a (refused-first f (examination-decided left right relation bytes (none-input e))))
 
       by-reading : (v : Verdict Heads) → read_verdict left right relation ≡ v → Outcome left right relation
-      by-reading (go_on h) e = by-examination h e (examined_verdict left right relation) refl
-      by-reading (refused_with a) e = unread a e (input-first left right relation a (refused-first e (inputs-decided left right relation)))
+      by-reading (Ok h) e = by-examination h e (examined_verdict left right relation) refl
+      by-reading (Err a) e = unread a e (input-first left right relation a (refused-first e (inputs-decided left right relation)))
 
   -- ---- the enquiry
 
@@ -83,10 +84,10 @@ module _ (left right relation : List ℕ) (bytes : AreBytes relation) where
   slip-by e = ap (λ (x : Enquiry). x.slip) (sym (enquired-by left right relation e))
 
   -- what each outcome says
-  unread-is : {a : Answer} → read_verdict left right relation ≡ refused_with a → enquired ≡ a
+  unread-is : {a : Answer} → read_verdict left right relation ≡ Err a → enquired ≡ a
   unread-is e = answer-by (not-read left right relation passed e)
 
-  examined-is : {h : Heads} {v : Verdict (Unit {0})} → read_verdict left right relation ≡ go_on h → examined_verdict left right relation ≡ v
+  examined-is : {h : Heads} {v : Verdict (Unit {0})} → read_verdict left right relation ≡ Ok h → examined_verdict left right relation ≡ v
       → enquired ≡ answer_after left right v
   examined-is e f = answer-by (when-read left right relation e passed ∙ f)
 
@@ -120,7 +121,7 @@ module _ (left right relation : List ℕ) (bytes : AreBytes relation) where
   not-21 output n = go outcome
     where
       -- where all is read, an output that is too short is refused with 21
-      read : {h : Heads} → read_verdict left right relation ≡ go_on h → make_answer left right relation output ≡ enquired
+      read : {h : Heads} → read_verdict left right relation ≡ Ok h → make_answer left right relation output ≡ enquired
       read e =
           ⊎_elim (λ l. absurd (n (ap (λ (x : Answer). x.code) (sym (too_short left right relation e output refl l).0))))
           (λ m. has_room output (omega arith)) (decides-either (ltb-decides (length output) (length_for left right)))
@@ -207,11 +208,11 @@ module _ (left right relation : List ℕ) (bytes : AreBytes relation) where
       (fails, (commit-exact slip-given output).untouched fails)
 
   -- a file that is not read is refused by both
-  same-unread : {a : Answer} → read_verdict left right relation ≡ refused_with a → (output : List ℕ) → committing output ≡ enquired
+  same-unread : {a : Answer} → read_verdict left right relation ≡ Err a → (output : List ℕ) → committing output ≡ enquired
   same-unread e output = sym (committed-by left right relation output slip-given (not-read left right relation _ e)).0 ∙ sym (unread-is e)
 
   -- where all is read, the slip of zeros is refused with 29
-  other-read : {h : Heads} → read_verdict left right relation ≡ go_on h → ¬ (enquired.code ≡ 0) → (output : List ℕ) → committing output ≡ six_numbers 29 2 0
+  other-read : {h : Heads} → read_verdict left right relation ≡ Ok h → ¬ (enquired.code ≡ 0) → (output : List ℕ) → committing output ≡ six_numbers 29 2 0
   other-read e n output =
       sym (other-slip left right relation e output slip-given
       (decides-false (same-decides slip-given (slip_for left right relation)) (λ s. not-theirs (none-input e) (sym (zeros n) ∙ s)))).0

@@ -1,5 +1,6 @@
 -- Ask 3 of document 02, `follow-exact`: where no cause applies, the judge has accepted, so what the path matcher makes of the path is a matching path of
 -- demand 3 with its blocks, and its states and numbers fit the bytes that they are written in. Assumes nothing.
+use Rattle.std.specs.Prelude.{Ok}
 use Prim.Native.Nat.{ℕ, suc, ◌+◌, ◌*◌, ◌≤◌, ◌<◌}
 use mathlib.Core.Path.{◌≡◌, refl, sym, ap, ◌∙◌}
 use mathlib.Core.Logic.{inl, inr, ⊎_elim}
@@ -23,7 +24,7 @@ use Rattle.bisimulation.proofs.PathMatchingLaws.{Matched, given-states, matching
 use Rattle.bisimulation.proofs.StandingLaws.{path-matched}
 use Rattle.answers.specs.Numbers.{six_numbers}
 use Rattle.answers.specs.Causes.{Cause, FirstCause, NoCause, Answers}
-use Rattle.answers.specs.Verdicts.{Verdict, go_on, answer_of}
+use Rattle.answers.specs.Verdicts.{Verdict, answer_of}
 use Rattle.answers.specs.declared.Answer.{Answer}
 use Rattle.answers.proofs.CauseLaws.{none-append, append-none, append-first, numbered-first, zero-none, none-zero}
 use Rattle.answers.proofs.DecideLaws.{decides-stable, test-decides}
@@ -229,8 +230,8 @@ module _ (left right c : List ℕ) (bytes : AreBytes c) (side start : ℕ) (path
         let b : ¬ (length blocks < 2 * length path) = λ x. split.1.1.1.0 (inr x) in
         (omega arith, omega arith)
 
-    went_on : verdict ≡ go_on (length matched)
-    went_on = let q = none-on verdict (follow-decided left right c side start path states blocks) none in q.1 ∙ ap go_on q.2
+    went_on : verdict ≡ Ok (length matched)
+    went_on = let q = none-on verdict (follow-decided left right c side start path states blocks) none in q.1 ∙ ap Ok q.2
 
     answer-is : answer ≡ six_numbers 0 0 (length matched)
     unfolding follow_answer

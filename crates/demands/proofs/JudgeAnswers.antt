@@ -1,5 +1,6 @@
 -- Demand 1 for the judge, `judge-answers`: its six numbers are those of the first cause that applies, and where none applies the counts of an acceptance.
 -- Assumes nothing.
+use Rattle.std.specs.Prelude.{Ok}
 use Prim.Native.Nat.{ℕ, ◌+◌, ◌*◌, ◌≤◌}
 use mathlib.Core.Path.{◌≡◌, refl, sym, ◌∙◌, subst}
 use mathlib.Core.Logic.{◌↔◌}
@@ -9,7 +10,6 @@ use Rattle.lists.specs.Below.{sum_below}
 use Rattle.lists.specs.Lists.{Counts}
 use Rattle.words.specs.Bits.{count_bits}
 use Rattle.answers.specs.Causes.{FirstCause, NoCause}
-use Rattle.answers.specs.Verdicts.{go_on}
 use Rattle.answers.specs.declared.Answer.{Answer}
 use Rattle.answers.proofs.CauseLaws.{refused-iff, zero-none, none-zero}
 use Rattle.answers.proofs.VerdictLaws.{then-on, decided-answer}
@@ -51,7 +51,7 @@ module _ (left right c : List ℕ) where
   from-none Match n = omega arith
 
   -- where the judge goes on to the end, its tally has every obligation under the clause that meets it
-  counted : (y : Tally) → judge_verdict Both left right c ≡ go_on y
+  counted : (y : Tally) → judge_verdict Both left right c ≡ Ok y
       → Accepted left right c (acceptance (pairs_in (rows_part c (sizes_of left right)) (states_of left)) y)
   unfolding judge_verdict judged_bytes judged
   counted y e =

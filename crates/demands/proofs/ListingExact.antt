@@ -1,5 +1,7 @@
 -- Ask 2 of document 02, `listing-exact`: where the judge accepts, no check has a cause that applies, so every obligation is met and has its line. Assumes
 -- nothing.
+use Rattle.outcomes.specs.declared.Outcome.{Outcome}
+use Rattle.outcomes.specs.declared.Outcome.TheVariants.{Met, Failed}
 use Prim.Native.Nat.{ℕ, suc}
 use mathlib.Core.Path.{◌≡◌, refl, sym, ap, subst}
 use mathlib.Core.Logic.{◌⊎◌, inl, inr, ⊎_elim}
@@ -19,8 +21,6 @@ use Rattle.certificate_reader.specs.CertificateCauses.{certificate_causes}
 use Rattle.outcomes.specs.declared.Clause.{Clause}
 use Rattle.outcomes.specs.declared.Clause.TheVariants.{Step, Stutter, Match}
 use Rattle.outcomes.specs.declared.Failure.TheVariants as failure
-use Rattle.outcomes.specs.declared.Outcome.{Outcome}
-use Rattle.outcomes.specs.declared.Outcome.TheVariants.{Met, Failed}
 use Rattle.outcomes.specs.Obligation.{clause_number, obligation_at}
 use Rattle.obligations.specs.Outcomes.{MetFirstBy, HasOutcome}
 use Rattle.starts.specs.StartsNamed.{starts_named}

@@ -1,5 +1,6 @@
 -- How the path matcher goes on, in the words of document 02: by the outcome of each obligation, and at the end by smallest steps. The key idea: where a loop
 -- that follows the path stands, its next move is known, and of the places and the states to come one less is left after it. Assumes nothing.
+use Rattle.outcomes.specs.declared.Outcome.TheVariants.{Met}
 use Prim.Native.Nat.{ℕ, zero, suc, ◌+◌, ◌-◌, ◌≤◌, ◌<◌}
 use mathlib.Core.Path.{◌≡◌, ap, ◌∙◌, subst}
 use mathlib.Core.Logic.{◌⊎◌, inl, inr, ⊎_elim}
@@ -37,7 +38,6 @@ use Rattle.bisimulation.proofs.StandingLaws.{
   standing-stop,
 }
 use Rattle.outcomes.specs.declared.Clause.TheVariants as clause
-use Rattle.outcomes.specs.declared.Outcome.TheVariants.{Met}
 use Rattle.outcomes.specs.Obligation.{outcome_after2a, obligation_at}
 use Rattle.obligations.specs.Outcomes.{HasOutcome}
 use Rattle.obligations.proofs.OutcomeLaws.{outcome-is}

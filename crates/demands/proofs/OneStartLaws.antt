@@ -1,5 +1,6 @@
 -- Where neither table has a start word, each has one start, and the two are what 16 names; and for tables with one start each the starts rule says that the
 -- two are related. Assumes nothing.
+use Rattle.std.specs.Prelude.{Ok}
 use Prim.Native.Nat.{ℕ}
 use mathlib.Core.Path.{◌≡◌, refl, ap}
 use mathlib.Core.Bool.{Bool, true, false, cond, ◌||◌}
@@ -10,7 +11,6 @@ use Rattle.bisimulation.proofs.Equivalences.{one-initial}
 use Rattle.tables.specs.declared.Head.{Head}
 use Rattle.tables.specs.Table.{start_word, start_of}
 use Rattle.tables.specs.Model.{system_of}
-use Rattle.table_reader.specs.declared.TableRead.TheVariants.{Good}
 use Rattle.table_reader.specs.TableReading.{read_table}
 use Rattle.table_reader.proofs.TableLaws.{table-formed}
 use Rattle.table_reader.proofs.TableCauseLaws.{formed-good}
@@ -21,7 +21,7 @@ use Rattle.starts.proofs.StartsLaws.{NamesStarts}
 use Rattle.demands.specs.OneStart.{HasOneStart, OneStart}
 
 -- 16 names the starts of two tables that are read
-pub names-starts : (left right rows : List ℕ) {h k : Head} → read_table left ≡ Good h → read_table right ≡ Good k
+pub names-starts : (left right rows : List ℕ) {h k : Head} → read_table left ≡ Ok h → read_table right ≡ Ok k
     → NamesStarts (view_of left right rows) (starts_named left right)
 unfolding starts_named view_of
 names-starts left right rows gl gr = go (start_word left) (start_word right) refl refl

@@ -1,5 +1,6 @@
 -- Ask 9 of document 02, `silent-keys`: keys that are all silent change nothing. The key is that the two tables of a side give one system, past its states and
 -- steps too, where every table has zeros; all the answers are of the systems, the sizes and the way in which 16 names starts. Assumes nothing.
+use Rattle.std.specs.Prelude.{Ok, Err}
 use Prim.Native.Nat.{ℕ, ◌+◌, ◌*◌, ◌≤◌, ◌<◌}
 use mathlib.Core.Path.{◌≡◌, refl, sym, ap, ◌∙◌, subst, fun_ext}
 use mathlib.Core.Logic.{◌⊎◌, inl, inr}
@@ -14,7 +15,7 @@ use Rattle.lists.specs.Numbers.{byte_at}
 use Rattle.lists.proofs.BoolLaws.{not-T-false}
 use Rattle.lists.proofs.FillLaws.{get_or-past}
 use Rattle.lists.proofs.NumberLaws.{big-past}
-use Rattle.answers.specs.Verdicts.{Verdict, go_on, refused_with, ◌and_then◌, passed, room_verdict, output_after}
+use Rattle.answers.specs.Verdicts.{Verdict, ◌and_then◌, passed, room_verdict, output_after}
 use Rattle.tables.specs.Table.{layout_of, format_of, keyed, version_of, format_in, layout_in, states_of, steps_of, start_word, labels_part, steps_part}
 use Rattle.tables.specs.Table.{label_of, from_of, to_of, key_of, key_in}
 use Rattle.tables.specs.Model.{system_of}
@@ -146,9 +147,9 @@ module _ (s k : List ℕ) (a : AllSilent s k) where
 -- ---- the answers
 
 -- a relation is read or refused alike, whatever the headers
-read_alike : (x : Verdict Sizes) (h k : Heads) (r : Verdict (Unit {0})) → ((x and_then λ z. go_on h) and_then λ i. r) ≡ ((x and_then λ z. go_on k) and_then λ i. r)
-read_alike (go_on z) h k r = refl
-read_alike (refused_with answer) h k r = refl
+read_alike : (x : Verdict Sizes) (h k : Heads) (r : Verdict (Unit {0})) → ((x and_then λ z. Ok h) and_then λ i. r) ≡ ((x and_then λ z. Ok k) and_then λ i. r)
+read_alike (Ok z) h k r = refl
+read_alike (Err answer) h k r = refl
 
 module _ (left right left' right' : List ℕ) (a : AllSilent left left') (b : AllSilent right right') where
   sizes-same : sizes_of left right ≡ sizes_of left' right'
@@ -165,11 +166,11 @@ module _ (left right left' right' : List ℕ) (a : AllSilent left left') (b : Al
   unfolding starts_named
   named-same = rw (plain_word left left' a, keyed-word left' a.has-keys)
 
-  read_plain : tables_verdict Both left right ≡ go_on (record { left = head_of left; right = head_of right })
+  read_plain : tables_verdict Both left right ≡ Ok (record { left = head_of left; right = head_of right })
   read_plain =
       read-tables left right (formed-read left right (record { left-formed = a.formed; right-formed = b.formed; one-kind = a.plain ∙ sym b.plain }))
 
-  read-keyed : tables_verdict Both left' right' ≡ go_on (record { left = head_of left'; right = head_of right' })
+  read-keyed : tables_verdict Both left' right' ≡ Ok (record { left = head_of left'; right = head_of right' })
   read-keyed =
       read-tables left' right'
       (formed-read left' right'
@@ -228,8 +229,8 @@ module _ (left right left' right' : List ℕ) (a : AllSilent left left') (b : Al
             × ((slip_after v (slip_for left right relation)).relation ≡ (slip_after v (slip_for left' right' relation)).relation)
             × ((slip_after v (slip_for left right relation)).certificate ≡ (slip_after v (slip_for left' right' relation)).certificate)
             × (¬ ((answer_after left right v).code ≡ 0) → slip_after v (slip_for left right relation) ≡ slip_after v (slip_for left' right' relation))
-        go (go_on x) = (rw sizes-same, refl, rw sizes-same, λ n. absurd (n refl))
-        go (refused_with answer) = (refl, refl, refl, λ n. refl)
+        go (Ok x) = (rw sizes-same, refl, rw sizes-same, λ n. absurd (n refl))
+        go (Err answer) = (refl, refl, refl, λ n. refl)
 
     module _ (bytes : AreBytes relation) (output : List ℕ) where
       one : Committed left right relation asked.answer asked.slip

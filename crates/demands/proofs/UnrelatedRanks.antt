@@ -1,4 +1,5 @@
 -- Ranks of unrelated pairs are not looked at: two certificates that differ only there get the same six numbers. Assumes nothing.
+use Rattle.std.specs.Prelude.{Ok, Err, Result}
 use Prim.Native.Nat.{ℕ, ◌+◌, ◌*◌, ◌≤◌, ◌<◌}
 use mathlib.Core.Path.{◌≡◌, refl, sym, ap, ap₂, ◌∙◌, subst, fun_ext}
 use mathlib.Core.Bool.{Bool, true, false, cond, not, ◌&&◌}
@@ -16,7 +17,7 @@ use Rattle.lists.proofs.NumberLaws.{big-cong}
 use Rattle.bisimulation.specs.Systems.{View, Ranks, flip, swap}
 use Rattle.bisimulation.specs.Judge.{is2b, is2c, meets2c}
 use Rattle.tables.specs.Table.{states_of, magic_fits}
-use Rattle.answers.specs.Verdicts.{Verdict, go_on, refused_with, ◌and_then◌, answer_of}
+use Rattle.answers.specs.Verdicts.{Verdict, ◌and_then◌, answer_of}
 use Rattle.answers.proofs.VerdictLaws.{then-cong, along-cong}
 use Rattle.certificates.specs.Layout.{sizes_of, certificate_length, certificate_header_length, al_at, rows_part}
 use Rattle.certificate_reader.specs.CertificateReading.{certificate_sizes_fit, read_header, read_rows, with_rows, read_certificate}
@@ -24,8 +25,6 @@ use Rattle.certificates.specs.CertificateModel.{view_of, ranks_of, certified_vie
 use Rattle.certificates.specs.declared.Sizes.{Sizes}
 use Rattle.refusals.specs.declared.CertificateRefusal.{CertificateRefusal}
 use Rattle.refusals.specs.declared.CertificateRefusal.TheVariants as refused
-use Rattle.certificate_reader.specs.declared.CertificateRead.{CertificateRead}
-use Rattle.certificate_reader.specs.declared.CertificateRead.TheVariants as certificate
 use Rattle.certificates.proofs.ModelLaws.{rows-length, rows-byte}
 use Rattle.certificate_reader.proofs.CertificateLaws.{certificate-ok}
 use Rattle.sweeps.specs.Tallies.{none, tallied, acceptance}
@@ -127,21 +126,21 @@ module _ (left right c c' : List ℕ) (d : SameWhereRelated left right c c') whe
       rows-byte z c i k ∙ d.head (certificate_header_length + i) (omega arith) ∙ sym (rows-byte z c' i k))
 
   -- a good header has the sizes and the length
-  good-header : {y : Sizes} → read_header z c ≡ certificate.Good y → (y ≡ z) × (length c ≡ certificate_length z)
+  good-header : {y : Sizes} → read_header z c ≡ Ok y → (y ≡ z) × (length c ≡ certificate_length z)
   unfolding read_header
   good-header {y} e =
       let q = last (ltb (length c) 11) (not (magic_fits 0x43 c))
       (not (eqb (big_endian c 3 2) 1)) (not (certificate_sizes_fit z c)) (not (eqb (length c) (certificate_length z))) e in
       (q.0, eqb-true _ _ (not-false _ q.1))
     where
-      no : {r : CertificateRefusal} {s : Sizes} → ◌≡◌ {A = CertificateRead} (certificate.Refused r) (certificate.Good s) → ⊥
+      no : {r : CertificateRefusal} {s : Sizes} → ◌≡◌ {A = Result Sizes CertificateRefusal} (Err r) (Ok s) → ⊥
       no q = let z : ◌≡◌ {A = ℕ} 0 1 = cc q in omega arith
 
       last : (a b d f g : Bool)
-          → cond a (certificate.Refused refused.Short) (cond b (certificate.Refused refused.Magic)
-          (cond d (certificate.Refused refused.Version) (cond f (certificate.Refused refused.Sizes)
-          (cond g (certificate.Refused refused.Length) (certificate.Good z)))))
-          ≡ certificate.Good y
+          → cond a (Err refused.Short) (cond b (Err refused.Magic)
+          (cond d (Err refused.Version) (cond f (Err refused.Sizes)
+          (cond g (Err refused.Length) (Ok z)))))
+          ≡ Ok y
           → (y ≡ z) × (g ≡ false)
       last true b d f g e = absurd (no e)
       last false true d f g e = absurd (no e)
@@ -154,9 +153,9 @@ module _ (left right c c' : List ℕ) (d : SameWhereRelated left right c c') whe
   unfolding read_certificate
   read_same = go (read_header z c) refl
     where
-      go : (x : CertificateRead) → read_header z c ≡ x → with_rows c (read_header z c) ≡ with_rows c' (read_header z c')
-      go (certificate.Refused r) e = rw (← header-same, e)
-      go (certificate.Good y) e =
+      go : (x : Result Sizes CertificateRefusal) → read_header z c ≡ x → with_rows c (read_header z c) ≡ with_rows c' (read_header z c')
+      go (Err r) e = rw (← header-same, e)
+      go (Ok y) e =
           let q = good-header e in
           rw (← header-same, e) (ap (read_rows y) (subst (λ (x : Sizes). rows_part c x ≡ rows_part c' x) (sym q.0) (rows_same q.1)))
 
@@ -185,11 +184,11 @@ module _ (left right c c' : List ℕ) (d : SameWhereRelated left right c c') whe
   unfolding judge_known judge_verdict
   unrelated-ranks = go (tables_verdict Both left right) (read_certificate z c) refl
     where
-      go : (x : Verdict Heads) (k : CertificateRead) → read_certificate z c ≡ k
+      go : (x : Verdict Heads) (k : Result Sizes CertificateRefusal) → read_certificate z c ≡ k
           → answer_after left right c (verdict_on c x) ≡ answer_after left right c' (verdict_on c' x)
-      go (refused_with a) k e = refl
-      go (go_on h) (certificate.Refused r) e = rw (← read_same, e)
-      go (go_on h) (certificate.Good s) e =
+      go (Err a) k e = refl
+      go (Ok h) (Err r) e = rw (← read_same, e)
+      go (Ok h) (Ok s) e =
           let l = (certificate-ok z c e).1.long in
           rw (← read_same, e, judged-same l)
           (ap (λ (rows : List ℕ). answer_of (acceptance (pairs_in rows (states_of left))) (judged_bytes left right c'))

@@ -1,4 +1,5 @@
 -- Ask 2 of document 02 on bytes, for any three files: where the judge accepts, the listing says how each obligation is met.
+use Rattle.outcomes.specs.declared.Outcome.TheVariants.{Met}
 use Rattle.std.specs.Prelude.{ℕ, ◌≡◌}
 use mathlib.Core.List.{List, [], ◌∷◌, flat_map}
 use Rattle.lists.specs.Lists.{Counts, Beside}
@@ -6,7 +7,6 @@ use Rattle.bisimulation.specs.Systems.{View, Ranks, flip, swap}
 use Rattle.answers.specs.declared.Answer.{Answer}
 use Rattle.certificates.specs.CertificateModel.{certified_view as view, certified_ranks as ranks}
 use Rattle.outcomes.specs.declared.Clause.{Clause}
-use Rattle.outcomes.specs.declared.Outcome.TheVariants.{Met}
 use Rattle.outcomes.specs.Obligation.{clause_number}
 use Rattle.obligations.specs.Outcomes.{HasOutcome}
 use Rattle.obligations.specs.Judging.{Check, labels_of, left_step, right_step, checks}

@@ -1,4 +1,5 @@
 -- Ask 3 of document 02 on bytes, for any three files, any side, start and path, and any two outputs: a run is followed on the other model.
+use Rattle.outcomes.specs.declared.Outcome.TheVariants.{Met}
 use Rattle.std.specs.Prelude.{ℕ, suc, ◌+◌, ◌*◌, ◌≤◌, ◌<◌, ◌≡◌, cond, List, [], ◌∷◌, map, eqb, length, drop}
 use Rattle.lists.specs.Below.{Smallest}
 use Rattle.lists.specs.Lists.{join_below}
@@ -10,7 +11,6 @@ use Rattle.answers.specs.Numbers.{six_numbers}
 use Rattle.answers.specs.Causes.{NoCause, Answers}
 use Rattle.answers.specs.declared.Answer.{Answer}
 use Rattle.outcomes.specs.declared.Clause.TheVariants.{Step, Stutter, Match}
-use Rattle.outcomes.specs.declared.Outcome.TheVariants.{Met}
 use Rattle.obligations.specs.Outcomes.{HasOutcome}
 use Rattle.table_reader.specs.declared.Known.TheVariants.{Plain}
 use Rattle.checker.specs.JudgeCauses.{known_judge_causes}

@@ -1,5 +1,6 @@
 -- The maker's examination is decided by its causes: it refuses with the numbers of the first that applies, and passes where none does. None
 -- applies exactly where the theory's maker succeeds. Assumes nothing.
+use Rattle.std.specs.Prelude.{Err}
 use Prim.Native.Nat.{ℕ, ◌<◌}
 use mathlib.Core.Path.{◌≡◌, refl}
 use mathlib.Core.Logic.{◌↔◌, ◌⊎◌, inl, inr, ⊎_elim}
@@ -18,7 +19,7 @@ use Rattle.bisimulation.proofs.ClauseLaws.{flip-formed, pairs-e, pairs-i, steps-
 use Rattle.bisimulation.proofs.RunLaws.{matched-iff, chain-some, chain-bound, chain-most}
 use Rattle.lists.specs.Lists.{All}
 use Rattle.answers.specs.Causes.{Cause, NoCause, Numbered, allows}
-use Rattle.answers.specs.Verdicts.{refused_with, passed, first_in}
+use Rattle.answers.specs.Verdicts.{passed, first_in}
 use Rattle.answers.proofs.CauseLaws.{none-append, append-none, numbered-append, numbered_below, numbered-flat, allowed}
 use Rattle.answers.proofs.DecideLaws.{Decides, decides-as, decides-stable, test-decides, eqb-decides, not-decides, and-decides, or-decides}
 use Rattle.answers.proofs.VerdictLaws.{Decided, Anything, decided-none, decided-test, decided-unless, decided-then, decided-along, decided-below}
@@ -49,12 +50,12 @@ module _ (v : View) (w : WellFormed v) (j t : ℕ) where
 check-decided : (v : View) → WellFormed v → (c : Check) → Decided Anything (maker_check_causes v c) (maker_verdict v c)
 unfolding maker_verdict verdict_by
 check-decided v w (labels_of s t) =
-    decided-unless (λ x. x) (eqb (v.own.label s) (v.other.label t)) (refused_with (labels_answer s t)) passed
+    decided-unless (λ x. x) (eqb (v.own.label s) (v.other.label t)) (Err (labels_answer s t)) passed
     (not-decides (eqb-decides (v.own.label s) (v.other.label t))) refl (decided-none tt)
-check-decided v w (left_step s t j) = decided-unless (λ x. x) (may_keep v j t) (refused_with (step_answer 22 0 s t j)) passed
+check-decided v w (left_step s t j) = decided-unless (λ x. x) (may_keep v j t) (Err (step_answer 22 0 s t j)) passed
     (unkept-decides v w j t) refl (decided-none tt)
 check-decided v w (right_step s t j) =
-    decided-unless (λ x. x) (may_keep (flip v) j s) (refused_with (step_answer 22 1 s t j)) passed
+    decided-unless (λ x. x) (may_keep (flip v) j s) (Err (step_answer 22 1 s t j)) passed
     (unkept-decides (flip v) (flip-formed v w) j s) refl (decided-none tt)
 
 -- ---- 23
@@ -80,7 +81,7 @@ module _ (v : View) (w : WellFormed v) where
   unfolding endless first_chain
   endless-decided side =
       decided-below v.other.states _ _ λ b. decided-below v.own.states _ _ λ c.
-      decided-test (λ x. x) (refused_with (chain_answer side b c)) passed (chain-decides b c) refl (decided-none tt)
+      decided-test (λ x. x) (Err (chain_answer side b c)) passed (chain-decides b c) refl (decided-none tt)
 
 -- ---- all of it
 

@@ -3,13 +3,13 @@
 use Prim.Native.Nat.{ℕ, ◌<◌}
 use mathlib.Core.Path.{◌≡◌, refl, sym, ap, ap₂, ◌∙◌}
 use mathlib.Core.Bool.{Bool, ◌&&◌, ◌||◌}
-use mathlib.Core.List.{List}
 use native.Mathlib.Omega.{arith}
 use lib.Dec.{T, ltb, leb}
 use Rattle.words.specs.Bits.{has_bit}
 use Rattle.bisimulation.specs.Systems.{View, WellFormed, flip, stays}
 use Rattle.answers.specs.Verdicts.{pass_if, first_in}
 use Rattle.answers.proofs.VerdictLaws.{along-cong, then_same}
+use Rattle.sides.specs.declared.Side.{Side}
 use Rattle.sides.specs.Side.{system_in, related_to}
 use Rattle.sides.specs.Built.{Linked}
 use Rattle.sides.specs.Views.{view_in}
@@ -30,7 +30,7 @@ use Rattle.examination.proofs.ChainLaws.{chains-cong}
 
 -- ---- one side
 
-module _ (ours theirs : List ℕ) where
+module _ (ours theirs : Side) where
   -- a step may be kept by the table of distances where the theory keeps it
   kept-is : (j t : ℕ) → j < (system_in ours).steps → t < 64 → kept_by (view_in ours theirs) (distance_table (view_in ours theirs)) j t
       ≡ may_keep (view_in ours theirs) j t
@@ -41,7 +41,7 @@ module _ (ours theirs : List ℕ) where
       (ap (λ (x : ℕ). ltb x v.other.states) (table-distance v (steps-few ours) j t h l) ∙ sym (matched-test v j t))
 
 -- a chain is too long by the table of chain lengths where it is endless
-module _ (ours theirs : List ℕ) (turned : (s t : ℕ) → has_bit (related_to theirs t) s ≡ has_bit (related_to ours s) t) where
+module _ (ours theirs : Side) (turned : (s t : ℕ) → has_bit (related_to theirs t) s ≡ has_bit (related_to ours s) t) where
   chains-are : (side : ℕ) → chains_in theirs ours side (chain_table (view_in ours theirs)) ≡ endless (view_in ours theirs) side
   unfolding endless long_by endless_at
   chains-are side =
@@ -52,7 +52,7 @@ module _ (ours theirs : List ℕ) (turned : (s t : ℕ) → has_bit (related_to 
 
 -- ---- two sides
 
-module _ (ours theirs : List ℕ) (a : Linked ours) (b : Linked theirs) (formed : WellFormed (view_in ours theirs))
+module _ (ours theirs : Side) (a : Linked ours) (b : Linked theirs) (formed : WellFormed (view_in ours theirs))
     (flipped : view_in theirs ours ≡ flip (view_in ours theirs)) where
   abbrev v : View
   v = view_in ours theirs

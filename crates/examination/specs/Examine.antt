@@ -1,9 +1,9 @@
 -- What the maker examines before it writes (document 01, What is turned away, 16, 17, 22 and 23): the starts, then the checks in the judging order with the
 -- maker's own test of a step, then the chains of as many steps as their side has states, left side first.
-use Rattle.std.specs.Prelude.{ℕ, Bool, cond, ◌&&◌, ◌||◌, leb, eqb}
+use Rattle.std.specs.Prelude.{ℕ, Bool, cond, ◌&&◌, ◌||◌, leb, eqb, Err}
 use Rattle.bisimulation.specs.Systems.{View, flip, stays}
 use Rattle.bisimulation.specs.Maker.{matched, chain_length}
-use Rattle.answers.specs.Verdicts.{Verdict, refused_with, ◌and_then◌, passed, pass_if, first_of, first_in}
+use Rattle.answers.specs.Verdicts.{Verdict, ◌and_then◌, passed, pass_if, first_of, first_in}
 use Rattle.starts.specs.StartsNamed.{StartsNamed}
 use Rattle.obligations.specs.CheckAnswers.{labels_answer, step_answer, chain_answer}
 use Rattle.obligations.specs.Judging.{Check, labels_of, left_step, right_step, checks}
@@ -33,7 +33,7 @@ endless_at v b c = v.related c b && leb v.own.states (chain_length v b v.own.sta
 
 -- The first chain that the test finds: the smallest b below m, then the smallest c below n. Side is 0 left, 1 right.
 unfoldable pub first_chain : ℕ → ℕ → ℕ → (ℕ → ℕ → Bool) → Verdict (Unit {0})
-first_chain side m n long = first_of m (λ b. first_of n (λ c. cond (long b c) (refused_with (chain_answer side b c)) passed))
+first_chain side m n long = first_of m (λ b. first_of n (λ c. cond (long b c) (Err (chain_answer side b c)) passed))
 
 unfoldable pub endless : View → ℕ → Verdict (Unit {0})
 endless v side = first_chain side v.other.states v.own.states (endless_at v)

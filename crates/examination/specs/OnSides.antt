@@ -4,6 +4,7 @@ use Rattle.lists.specs.Numbers.{byte_at}
 use Rattle.bisimulation.specs.Systems.{View, stays}
 use Rattle.tables.specs.Table.{max_states}
 use Rattle.answers.specs.Verdicts.{Verdict, ◌and_then◌, first_in}
+use Rattle.sides.specs.declared.Side.{Side}
 use Rattle.sides.specs.Side.{system_in}
 use Rattle.sides.specs.Views.{view_in}
 use Rattle.obligations.specs.Judging.{Check}
@@ -19,12 +20,12 @@ kept_by v distances j t = ltb (byte_at distances (j * max_states + t)) v.other.s
 unfoldable pub long_by : View → List ℕ → ℕ → ℕ → Bool
 long_by v chains b c = v.related b c && leb v.other.states (byte_at chains (b * max_states + c))
 
-module _ (ours theirs : List ℕ) where
+module _ (ours theirs : Side) where
   -- Their chains at our states.
   abbrev pub chains_in : ℕ → List ℕ → Verdict (Unit {0})
   chains_in side chains = first_chain side (system_in ours).states (system_in theirs).states (long_by (view_in ours theirs) chains)
 
-module _ (ours theirs distances distances' : List ℕ) where
+module _ (ours theirs : Side) (distances distances' : List ℕ) where
   -- The verdict on a check.
   abbrev pub verdict_in : Check → Verdict (Unit {0})
   verdict_in = verdict_by (view_in ours theirs) (kept_by (view_in ours theirs) distances) (kept_by (view_in theirs ours) distances')

@@ -2,6 +2,7 @@
 use Rattle.std.specs.Prelude.{ℕ, cond, List, []}
 use Rattle.lists.specs.Lists.{join_below}
 use Rattle.answers.specs.Verdicts.{Verdict, pass_if, first_in}
+use Rattle.sides.specs.declared.Side.{Side}
 use Rattle.sides.specs.Side.{system_in, steps_in}
 use Rattle.sides.specs.Views.{view_in}
 use Rattle.obligations.specs.CheckAnswers.{place_answer}
@@ -10,10 +11,10 @@ use Rattle.obligations.specs.declared.Place.{Place}
 use Rattle.examination.specs.OnSides.{kept_by, verdict_in}
 
 -- Our step j at a place.
-abbrev pub step_verdict_in : (ours theirs distances : List ℕ) → Place → ℕ → Verdict (Unit {0})
+abbrev pub step_verdict_in : (ours theirs : Side) (distances : List ℕ) → Place → ℕ → Verdict (Unit {0})
 step_verdict_in ours theirs distances place j = pass_if (kept_by (view_in ours theirs) distances j place.other) (place_answer place 22 j)
 
-module _ (ours theirs distances distances' : List ℕ) where
+module _ (ours theirs : Side) (distances distances' : List ℕ) where
   -- The pair s, t, and our state s with the states related to it.
   abbrev pub pair_in : ℕ → ℕ → Verdict (Unit {0})
   pair_in s t = first_in (verdict_in ours theirs distances distances') (pair_checks (steps_in ours) (steps_in theirs) s t)

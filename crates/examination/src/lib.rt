@@ -3,70 +3,64 @@
 #![tactic(auto)]
 
 ghost use Rattle.std.specs.Prelude.{◌≡◌, ◌<◌};
-ghost use Rattle.lists.specs.Below.{first_below};
-ghost use Rattle.answers.specs.Verdicts.{first_in, as_checked};
+ghost use Rattle.lists.specs.Below.{found_below};
+ghost use Rattle.answers.specs.Numbers.{which_number};
+ghost use Rattle.answers.specs.Verdicts.{first_in};
 ghost use Rattle.sides.specs.Side.{system_in, steps_in};
 ghost use Rattle.sides.specs.Views.{view_in};
 ghost use Rattle.obligations.specs.OnSides.{checks_in};
 ghost use Rattle.examination.specs.OnSides.{kept_by, long_by, verdict_in, chains_in, examined_in};
 ghost use Rattle.examination.specs.Walk.{step_verdict_in, pair_in, row_in};
 
-use answers::{Answer, Checked};
+use answers::{Answer, Which};
 use lists::byte;
 use obligations::Place;
-use sides::{Side, first, key, label, next, related, states, to};
+use sides::View;
 use starts::check_starts;
 use tables::Head;
 
+// The match distances of the steps of a side, and the lengths of its chains, in rows of 64; past an end stand zeros.
+#[derive(Clone, Copy)]
+pub struct Lengths<'a> {
+    pub distances: &'a [u8],
+    pub chains: &'a [u8],
+}
+
 // Whether our step j may be kept at t: it is matched there by the table of distances, or it stays.
-fn is_kept(ours: &Side, theirs: &Side, distances: &[u8], j: usize, t: usize) -> bool
+fn is_kept(view: View, distances: &[u8], j: usize, t: usize) -> bool
     requires { (j < 256) × (t < 64) }
-    ensures { result ≡ kept_by (view_in ours.now theirs.now) distances.now j t }
+    ensures { result ≡ kept_by (view_in view.entry.ours.now view.entry.theirs.now) distances.now j t }
 {
-    if byte(distances, j * Head::MAX_STATES + t) < states(theirs) {
-        return true;
-    }
-    if key(ours, j) == 0 {
-        let to_states = related(ours, to(ours, j));
-        return to_states.has(t);
-    }
-    false
+    byte(distances, j * Head::MAX_STATES + t) < view.theirs.states()
+        || view.ours.key(j) == 0 && view.ours.related(view.ours.to(j)).has(t)
 }
 
 // Our steps from the place's own state, in the order of their links.
-fn check_steps(ours: &Side, theirs: &Side, distances: &[u8], place: Place) -> Checked
+fn check_steps(view: View, distances: &[u8], place: Place) -> Result<(), Answer>
     requires { place.other < 64 }
-    ensures { result ≡ as_checked (first_in (step_verdict_in ours.now theirs.now distances.now place)
-        (steps_in ours.now place.own)) }
+    ensures { result ≡ first_in (step_verdict_in view.entry.ours.now view.entry.theirs.now distances.now place) (steps_in view.entry.ours.now place.own) }
 {
-    let mut j = first(ours, place.own);
-    while j < Head::MAX_STEPS {
-        if !is_kept(ours, theirs, distances, j, place.other) {
-            return Checked::Refused(place.step_answer(22, j));
+    for j in view.ours.steps_from(place.own) {
+        if !is_kept(view, distances, j, place.other) {
+            return Err(place.step_answer(22, j));
         }
-        let later = next(ours, j);
-        if later <= j {
-            return Checked::Passed;
-        }
-        j = later;
     }
-    Checked::Passed
+    Ok(())
 }
 
 // The pair s, t: the labels, then our steps from s, then their steps from t.
 fn check_pair(
-    ours: &Side,
-    theirs: &Side,
+    view: View,
     distances: &[u8],
     distances2: &[u8],
     s: usize,
     t: usize,
-) -> Checked
+) -> Result<(), Answer>
     requires { (s < 64) × (t < 64) }
-    ensures { result ≡ as_checked (pair_in ours.now theirs.now distances.now distances2.now s t) }
+    ensures { result ≡ pair_in view.entry.ours.now view.entry.theirs.now distances.now distances2.now s t }
 {
-    if label(ours, s) != label(theirs, t) {
-        return Checked::Refused(Answer {
+    if view.ours.label(s) != view.theirs.label(t) {
+        return Err(Answer {
             code: 17,
             file: 2,
             a: s,
@@ -75,144 +69,93 @@ fn check_pair(
             d: 0,
         });
     }
-    let left = check_steps(
-        ours,
-        theirs,
-        distances,
-        Place {
-            side: 0,
-            own: s,
-            other: t,
-        },
-    );
-    let Checked::Passed = left else {
-        return left;
+    let left = Place {
+        side: 0,
+        own: s,
+        other: t,
     };
-    check_steps(
-        theirs,
-        ours,
-        distances2,
-        Place {
-            side: 1,
-            own: t,
-            other: s,
-        },
-    )
+    let right = Place {
+        side: 1,
+        own: t,
+        other: s,
+    };
+    check_steps(view, distances, left)?;
+    check_steps(view.turned(), distances2, right)
 }
 
 // Our state s with the states related to it, in rising order.
-fn check_row(ours: &Side, theirs: &Side, distances: &[u8], distances2: &[u8], s: usize) -> Checked
+fn check_row(view: View, distances: &[u8], distances2: &[u8], s: usize) -> Result<(), Answer>
     requires { s < 64 }
-    ensures { result ≡ as_checked (row_in ours.now theirs.now distances.now distances2.now s) }
+    ensures { result ≡ row_in view.entry.ours.now view.entry.theirs.now distances.now distances2.now s }
 {
-    let n = states(theirs);
-    let mut rest = related(ours, s);
-    let mut t = rest.first();
-    while t < n {
-        let pair = check_pair(ours, theirs, distances, distances2, s, t);
-        let Checked::Passed = pair else {
-            return pair;
-        };
-        rest = rest.remove(t);
-        t = rest.first();
+    let n = view.theirs.states();
+    for t in view.ours.related(s) {
+        if n <= t {
+            break;
+        }
+        check_pair(view, distances, distances2, s, t)?;
     }
-    Checked::Passed
+    Ok(())
 }
 
 // All related pairs.
-fn check_pairs(ours: &Side, theirs: &Side, distances: &[u8], distances2: &[u8]) -> Checked
-    ensures { result ≡ as_checked (first_in (verdict_in ours.now theirs.now distances.now distances2.now)
-        (checks_in ours.now theirs.now)) }
+fn check_pairs(view: View, distances: &[u8], distances2: &[u8]) -> Result<(), Answer>
+    ensures { result ≡ first_in (verdict_in view.entry.ours.now view.entry.theirs.now distances.now distances2.now)
+        (checks_in view.entry.ours.now view.entry.theirs.now) }
 {
-    let n = states(ours);
-    let mut s: usize = 0;
-    while s < n {
-        let row = check_row(ours, theirs, distances, distances2, s);
-        let Checked::Passed = row else {
-            return row;
-        };
-        s += 1;
+    for s in 0..view.ours.states() {
+        check_row(view, distances, distances2, s)?;
     }
-    Checked::Passed
+    Ok(())
 }
 
 // Whether their state c is related to our fixed state b, and its chain at b has as many steps as they have states.
-fn is_long(ours: &Side, theirs: &Side, chains: &[u8], b: usize, c: usize) -> bool
+fn is_long(view: View, chains: &[u8], b: usize, c: usize) -> bool
     requires { (b < 64) × (c < 64) }
-    ensures { result ≡ long_by (view_in ours.now theirs.now) chains.now b c }
+    ensures { result ≡ long_by (view_in view.entry.ours.now view.entry.theirs.now) chains.now b c }
 {
-    let states_of = related(ours, b);
-    if states_of.has(c) {
-        return states(theirs) <= byte(chains, b * Head::MAX_STATES + c);
-    }
-    false
+    view.ours.related(b).has(c) && view.theirs.states() <= byte(chains, b * Head::MAX_STATES + c)
 }
 
-// Their first state whose chain at our state b is too long, and their number of states where there is none.
-fn first_long(ours: &Side, theirs: &Side, chains: &[u8], b: usize) -> usize
+// Their first state whose chain at our state b is too long, if there is one.
+fn first_long(view: View, chains: &[u8], b: usize) -> Option<usize>
     requires { b < 64 }
-    ensures { result ≡ first_below (system_in theirs.now).states
-        (long_by (view_in ours.now theirs.now) chains.now b) }
+    ensures { result ≡ found_below (system_in view.entry.theirs.now).states (long_by (view_in view.entry.ours.now view.entry.theirs.now) chains.now b) }
 {
-    let n = states(theirs);
-    let mut c: usize = 0;
-    while c < n {
-        if is_long(ours, theirs, chains, b, c) {
-            return c;
+    for c in 0..view.theirs.states() {
+        if is_long(view, chains, b, c) {
+            return Some(c);
         }
-        c += 1;
     }
-    c
+    None
 }
 
 // Their chains at our states; they are the side named.
-fn check_chains(ours: &Side, theirs: &Side, chains: &[u8], side: usize) -> Checked
-    ensures { result ≡ as_checked (chains_in ours.now theirs.now side chains.now) }
+fn check_chains(view: View, chains: &[u8], side: Which) -> Result<(), Answer>
+    ensures { result ≡ chains_in view.entry.ours.now view.entry.theirs.now (which_number side) chains.now }
 {
-    let m = states(ours);
-    let n = states(theirs);
-    let mut b: usize = 0;
-    while b < m {
-        let c = first_long(ours, theirs, chains, b);
-        if c < n {
-            return Checked::Refused(Answer {
+    for b in 0..view.ours.states() {
+        if let Some(c) = first_long(view, chains, b) {
+            return Err(Answer {
                 code: 23,
                 file: 2,
-                a: side,
+                a: usize::from(side),
                 b,
                 c,
                 d: 0,
             });
         }
-        b += 1;
     }
-    Checked::Passed
+    Ok(())
 }
 
-// The examination of two sides: `distances` and `chains` are the match distances and the chain lengths of our steps, `distances2` and `chains2` those of
-// theirs, in rows of 64.
-pub fn examine(
-    ours: &Side,
-    theirs: &Side,
-    distances: &[u8],
-    distances2: &[u8],
-    chains: &[u8],
-    chains2: &[u8],
-) -> Checked
-    ensures { result ≡ as_checked (examined_in ours.now theirs.now distances.now distances2.now
-        chains.now chains2.now) }
+// The examination of two sides: `lengths` has the match distances and the chain lengths of our steps, and `lengths2` those of theirs.
+pub fn examine(view: View, lengths: Lengths, lengths2: Lengths) -> Result<(), Answer>
+    ensures { result ≡ examined_in view.entry.ours.now view.entry.theirs.now lengths.entry.distances.now lengths2.entry.distances.now
+        lengths.entry.chains.now lengths2.entry.chains.now }
 {
-    let starts = check_starts(ours, theirs);
-    let Checked::Passed = starts else {
-        return starts;
-    };
-    let pairs = check_pairs(ours, theirs, distances, distances2);
-    let Checked::Passed = pairs else {
-        return pairs;
-    };
-    let left = check_chains(theirs, ours, chains, 0);
-    let Checked::Passed = left else {
-        return left;
-    };
-    check_chains(ours, theirs, chains2, 1)
+    check_starts(view)?;
+    check_pairs(view, lengths.distances, lengths2.distances)?;
+    check_chains(view.turned(), lengths.chains, Which::Left)?;
+    check_chains(view, lengths2.chains, Which::Right)
 }

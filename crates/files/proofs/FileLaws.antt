@@ -1,5 +1,6 @@
 -- Laws of the file of a certificate: ranks that agree give one file, it has L bytes, each part stands where the layout says, and it is read with its own
 -- sizes, rows and ranks. What is read of a file is read too of an output that begins with it. Assumes nothing.
+use Rattle.std.specs.Prelude.{Ok}
 use Prim.Native.Nat.{ℕ, zero, suc, ◌+◌, ◌*◌, ◌/◌, ◌%◌, ◌≤◌, ◌<◌}
 use mathlib.Core.Path.{◌≡◌, refl, sym, ap, ap₂, ◌∙◌}
 use mathlib.Core.List.{List, [], ◌∷◌, ◌++◌}
@@ -16,7 +17,6 @@ use Rattle.answers.specs.Causes.{NoCause}
 use Rattle.table_reader.specs.TableCauses.{MagicFits}
 use Rattle.answers.proofs.CauseLaws.{none_below}
 use Rattle.certificates.specs.declared.Sizes.{Sizes}
-use Rattle.certificate_reader.specs.declared.CertificateRead.TheVariants as read
 use Rattle.certificates.specs.Layout.{certificate_length, certificate_header_length, al_at, ar_at, cl_at, cr_at, rows_part}
 use Rattle.certificate_reader.specs.CertificateReading.{read_certificate}
 use Rattle.certificate_reader.specs.CertificateCauses.{certificate_causes}
@@ -218,7 +218,7 @@ module _ (z : Sizes) (rows : List ℕ) (r : Ranks) (full : length rows ≡ 8 * z
   file-version = refl
 
   -- with its own sizes, where no row has a bit n2 or more
-  pub file-good : NoWideRow rows z.n1 z.n2 → read_certificate z (certificate_file z rows r) ≡ read.Good z
+  pub file-good : NoWideRow rows z.n1 z.n2 → read_certificate z (certificate_file z rows r) ≡ Ok z
   unfolding certificate_length
   file-good narrow = certificate-none-good 2 z (certificate_file z rows r) none
     where

@@ -1,46 +1,39 @@
--- Laws of what was read: that all three were read where the reading goes on, and the verdict as the code comes to it. Assumes nothing.
+-- Laws of what was read: that all three were read where the reading goes on. Assumes nothing.
+use Rattle.std.proofs.Common.{Result, Ok, Err}
 use Prim.Native.Nat.{ℕ}
 use mathlib.Core.Path.{◌≡◌, sym, ap, ◌∙◌}
 use mathlib.Core.List.{List}
-use native.Mathlib.Omega.{arith}
-use Rattle.answers.specs.Verdicts.{Verdict, go_on, refused_with, refusal_of}
+use Rattle.answers.specs.Verdicts.{Verdict, refusal_of}
 use Rattle.answers.specs.declared.Answer.{Answer}
 use Rattle.answers.proofs.VerdictLaws.{then-on}
-use Rattle.refusals.specs.Refusals.{relation_answer}
 use Rattle.refusals.specs.declared.RelationRefusal.{RelationRefusal}
 use Rattle.table_reader.specs.declared.Known.TheVariants.{Both}
 use Rattle.table_reader.specs.TableReading.{read_table}
-use Rattle.table_reader.specs.declared.TableRead.TheVariants as table
 use Rattle.table_pairs.specs.declared.Heads.{Heads}
-use Rattle.table_pairs.specs.declared.TablesRead.{TablesRead}
-use Rattle.table_pairs.specs.declared.TablesRead.TheVariants.{Good, Refused}
-use Rattle.table_pairs.specs.TablePairs.{tables_verdict, as_tables_read}
-use Rattle.table_pairs.proofs.PairLaws.{was-refused, BothRead, tables-read, read-tables}
-use Rattle.certificates.specs.Layout.{sizes_of}
+use Rattle.table_pairs.specs.TablePairs.{tables_verdict}
+use Rattle.table_pairs.proofs.PairLaws.{BothRead, tables-read, read-tables}
+use Rattle.certificates.specs.Layout.{sizes_for, sizes_of}
 use Rattle.certificates.specs.declared.Sizes.{Sizes}
 use Rattle.certificate_reader.specs.CertificateReading.{read_relation}
 use Rattle.certificate_reader.specs.CertificateVerdicts.{relation_verdict}
-use Rattle.certificate_reader.specs.declared.RelationRead.{RelationRead}
-use Rattle.certificate_reader.specs.declared.RelationRead.TheVariants as relations
+use Rattle.certificate_reader.proofs.CertificateCauseLaws.{relation-on}
+use Rattle.certificate_reader.proofs.CertificateLaws.{sizes-are}
 use Rattle.inputs.specs.Inputs.{InputsRead, read_verdict}
 
-relation-good : (file : ℕ) {z : Sizes} (x : RelationRead) → relation_verdict file x ≡ go_on z → x ≡ relations.Good z
-relation-good file (relations.Good k) e = ap relations.Good (cc e)
-relation-good file {z} (relations.Refused r) e = absurd (not_on e)
-  where
-    not_on : ◌≡◌ {A = Verdict Sizes} (refused_with (relation_answer r file)) (go_on z) → ⊥
-    not_on q = let y : ◌≡◌ {A = ℕ} 1 0 = cc q in omega arith
+-- the sizes that the headers of the two tables give are those that their bytes give
+pub sizes-read : (left right : List ℕ) {h : Heads} → tables_verdict Both left right ≡ Ok h → sizes_for h.left h.right ≡ sizes_of left right
+sizes-read left right e = let read = tables-read Both left right e in sizes-are left right read.left-good read.right-good
 
 module _ (left right relation : List ℕ) where
   -- where the reading goes on, all three were read, and the headers are theirs
-  pub inputs_read : {h : Heads} → read_verdict left right relation ≡ go_on h
-      → (read_table left ≡ table.Good h.left) × (read_table right ≡ table.Good h.right) × InputsRead left right relation
+  pub inputs_read : {h : Heads} → read_verdict left right relation ≡ Ok h
+      → (read_table left ≡ Ok h.left) × (read_table right ≡ Ok h.right) × InputsRead left right relation
   unfolding read_verdict
   inputs_read {h} e =
       let p = then-on (tables_verdict Both left right) e in
       let r = then-on (relation_verdict 2 (read_relation (sizes_of left right) relation)) p.2 in
       let same : ◌≡◌ {A = Heads} p.0 h = cc r.2 in
-      let read : BothRead left right h = tables-read Both left right (p.1 ∙ ap go_on same) in (
+      let read : BothRead left right h = tables-read Both left right (p.1 ∙ ap Ok same) in (
         read.left-good,
         read.right-good,
         record {
@@ -50,12 +43,12 @@ module _ (left right relation : List ℕ) where
           left-good = read.left-good;
           right-good = read.right-good;
           one-kind = read.one-kind;
-          relation-good = relation-good 2 (read_relation (sizes_of left right) relation) r.1;
+          relation-good = relation-on 2 (read_relation (sizes_of left right) relation) r.1;
         },
       )
 
   -- and back
-  pub read-inputs : (w : InputsRead left right relation) → read_verdict left right relation ≡ go_on (record { left = w.head; right = w.head' })
+  pub read-inputs : (w : InputsRead left right relation) → read_verdict left right relation ≡ Ok (record { left = w.head; right = w.head' })
   unfolding read_verdict
   read-inputs w =
       rw (
@@ -65,17 +58,16 @@ module _ (left right relation : List ℕ) where
 
   -- ---- as the code comes to them
 
-  pub tables-refuse : {x : TablesRead} {a : Answer} → x ≡ as_tables_read (tables_verdict Both left right) → x ≡ Refused a
-      → x ≡ as_tables_read (read_verdict left right relation)
+  pub tables-refuse : {x : Verdict Heads} {a : Answer} → x ≡ tables_verdict Both left right → x ≡ Err a → x ≡ read_verdict left right relation
   unfolding read_verdict
-  tables-refuse {x} {a} e q = q ∙ sym (rw (was-refused (tables_verdict Both left right) a (sym e ∙ q)))
+  tables-refuse e q = q ∙ sym (rw (sym e ∙ q))
 
-  module _ {h : Heads} (read : tables_verdict Both left right ≡ go_on h) where
-    pub relation-refuses : {x : RelationRead} {r : RelationRefusal} → x ≡ read_relation (sizes_of left right) relation → x ≡ relations.Refused r
-        → Refused (refusal_of (relation_verdict 2 x)) ≡ as_tables_read (read_verdict left right relation)
+  module _ {h : Heads} (read : tables_verdict Both left right ≡ Ok h) where
+    pub relation-refuses : {x : Result Sizes RelationRefusal} {r : RelationRefusal} → x ≡ read_relation (sizes_of left right) relation → x ≡ Err r
+        → ◌≡◌ {A = Verdict Heads} (Err (refusal_of (relation_verdict 2 x))) (read_verdict left right relation)
     unfolding read_verdict
     relation-refuses e q = rw (read, ← e, q)
 
-    pub all_read : {z : Sizes} → read_relation (sizes_of left right) relation ≡ relations.Good z → Good h ≡ as_tables_read (read_verdict left right relation)
+    pub all_read : {z : Sizes} → read_relation (sizes_of left right) relation ≡ Ok z → ◌≡◌ {A = Verdict Heads} (Ok h) (read_verdict left right relation)
     unfolding read_verdict
-    all_read gz = rw (read, gz)
+    all_read gr = rw (read, gr)

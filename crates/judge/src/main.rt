@@ -6,7 +6,7 @@ ghost use Rattle.pieces.specs.Pieces.{piece_of, ReadOut};
 ghost use Rattle.checker.specs.Judge.{judge_answer};
 
 use answers::Answer;
-use std::io::Stdin;
+use std::io::{Stdin, Stdout, Write};
 
 // The judge's answer to an input.
 fn answer_of(input: &[u8]) -> Answer
@@ -27,13 +27,14 @@ fn judge_input(stdin: Stdin) -> Answer
     answer_of(&input[..n])
 }
 
-// Prints the six numbers: in decimal, one space between, and a newline.
-fn print_answer(answer: Answer) {
+// Prints the six numbers: in decimal, one space between, and a newline. A write that fails is not told.
+fn print_answer(mut stdout: Stdout, answer: Answer) {
     let mut line = [0u8; texts::MOST];
     let end = texts::put_answer(answer, &mut line, 0);
-    io::write_all(1, &line[..end]);
+    // Not by `println!`: what `put_answer` puts is proved, and a write that fails leaves the exit status as it is.
+    let _ = stdout.write_all(&line[..end]);
 }
 
 fn main(rt: HostRuntime) {
-    print_answer(judge_input(rt.stdin()));
+    print_answer(rt.stdout(), judge_input(rt.stdin()));
 }

@@ -9,7 +9,7 @@ use native.Mathlib.Decide.{dec_lt}
 use borrow.Rule.Slice.PartMut.{put_mid}
 use borrow.Author.Tests.{lt-ltb, le-ltb}
 use Rattle.lists.specs.Lists.{tabulate, grid, part}
-use Rattle.lists.proofs.FillLaws.{length-grid, get_or-grid, grid-cells, tabulate-of, tabulate-cong, get_or-tabulate, Rows, rows_more, row_fits, part_length}
+use Rattle.lists.proofs.FillLaws.{length-grid, get_or-grid, grid-cells, tabulate-of, tabulate-cong, Rows, rows_more, row_fits, part_length}
 use Rattle.bisimulation.specs.Systems.{View}
 use Rattle.bisimulation.specs.Maker.{distance}
 use Rattle.lengths.specs.Cells.{distance_at}
@@ -29,20 +29,14 @@ module _ (v : View) (j : ℕ) where
 
 -- ---- a loop that writes n rows of 64 lengths, each lent as a part
 
-module _ (n : ℕ) {j a : ℕ} {f : ℕ → ℕ → ℕ} {d at : List ℕ} (w : Rows j a 64 f d at) (len : length d ≡ n * 64) (h : j < n) where
-  -- the next row has room
-  pub rows-room : a + 64 ≤ length at
-  rows-room = omega (arith, w.at, w.rows.len, row_fits j n 64 h)
-
-  pub rows-part : length (part at a (a + 64)) ≡ 64
-  rows-part = part_length at a 64 rows-room
-
-  -- it is copied by index
-  pub rows-put : {row ys : List ℕ} → row ≡ tabulate 64 (f j) → ys ≡ tabulate (length (part at a (a + 64))) (λ t. get_or row t 0)
-      → Rows (j + 1) (a + 64) 64 f d (put_mid a (a + 64 - a) at ys)
-  rows-put {row} {ys} r e =
-      rows_more n w h len (e ∙ tabulate-cong (length (part at a (a + 64))) _ _
-      (λ t l. ap (λ (x : List ℕ). get_or x t 0) r ∙ get_or-tabulate 64 t (f j) (rw rows-part at l)))
+-- the row of j is copied into its part
+pub rows-copied : (n : ℕ) {j : ℕ} {f : ℕ → ℕ → ℕ} {d at : List ℕ} → Rows j (j * 64) 64 f d at → length d ≡ n * 64 → j < n
+    → {row ys : List ℕ} → row ≡ tabulate 64 (f j) → ys ≡ row → Rows (j + 1) ((j + 1) * 64) 64 f d (put_mid (j * 64) (j * 64 + 64 - j * 64) at ys)
+rows-copied n {j} {f} {d} {at} w len h {row} {ys} r e =
+    let room : j * 64 + 64 ≤ length at = omega (arith, w.rows.len, row_fits j n 64 h) in
+    let whole : length (part at (j * 64) (j * 64 + 64)) ≡ 64 = part_length at (j * 64) 64 room in
+    let next : (j + 1) * 64 ≡ j * 64 + 64 = omega arith in
+    rw next (rows_more n w h len (e ∙ r ∙ ap (λ (k : ℕ). tabulate k (f j)) (sym whole)))
 
 -- the rows that are left are as they were
 pub rows-rest : (n : ℕ) {s a : ℕ} {f : ℕ → ℕ → ℕ} {d at : List ℕ} → Rows s a 64 f d at → length d ≡ n * 64
@@ -58,3 +52,12 @@ rows-rest n {s} {a} {f} {d} {at} w len rest =
           ap (λ (x : ℕ). get_or (grid s 64 f ++ drop a d) x 0) (sym i) ∙ get_or-append-add (grid s 64 f) (drop a d) (j * 64 + t - a) 0
           ∙ get_or-drop a d (j * 64 + t - a) 0 ∙ ap (λ (x : ℕ). get_or d x 0) k ∙ rest j t (omega arith) h l
     ])
+
+-- past the last step the rows stay zeros
+pub distances-rest : (v : View) {s a : ℕ} {at : List ℕ} → Rows s a 64 (distance_at v) (replicate 16384 0) at → v.own.steps ≤ s → at ≡ grid 256 64 (distance_at v)
+distances-rest v {s} w past =
+    rows-rest 256 w (length-replicate {A = ℕ} 16384 0)
+    (λ j t p q h.
+    let over : v.own.steps ≤ j = omega arith in
+    let below : j * 64 + t < 16384 = omega arith in
+    get_or-replicate 16384 (j * 64 + t) 0 0 below ∙ sym (distance-past v j t over))

@@ -1,16 +1,16 @@
 -- Laws of the open steps: they are kept one by one, a round over them gives the chain lengths for one step more, and their chains are those of the side.
 -- The key idea: a step that is not open gives no state a length, so the greatest length over the kept steps is that over all steps. Assumes nothing.
-use Prim.Native.Nat.{ℕ, zero, suc, ◌+◌, ◌*◌, ◌-◌, max, ◌≤◌, ◌<◌, zero-le}
-use mathlib.Core.Path.{◌≡◌, refl, sym, ap, ap₂, ◌∙◌}
+use Prim.Native.Nat.{ℕ, zero, suc, ◌+◌, ◌*◌, max, ◌≤◌, ◌<◌}
+use mathlib.Core.Path.{◌≡◌, refl, sym, ap, ap₂, ◌∙◌, subst}
 use mathlib.Core.Bool.{Bool, true, false, cond, ◌&&◌, and-true, and-false}
-use mathlib.Core.List.{List}
+use mathlib.Core.List.{List, [], ◌∷◌, ◌++◌}
 use native.Mathlib.Nat.{not-suc-le-zero}
-use native.Mathlib.Numerals.{sub-one}
+use native.Mathlib.Numerals.{add-one}
 use native.Mathlib.Omega.{arith}
-use native.Mathlib.Decide.{dec_lt, ℕ_discrete}
+use native.Mathlib.Decide.{dec_lt}
 use lib.Dec.{T, eqb, eqb→eq, ltb, ltb→lt, lt→ltb}
-use lib.ListN.{length, get_or, set, replicate, length-set, length-replicate}
-use lib.Seq.{get_or-set_same, get_or-set_other}
+use lib.ListN.{length, get_or, set, replicate, length-append, get_or-append}
+use lib.Seq.{get_or_at}
 use borrow.Author.Count.{below_more}
 use borrow.Author.Tests.{eq-eqb, ne_eqb, lt-ltb, le-ltb, le-leb, lt-leb}
 use Rattle.lists.specs.Below.{most_below}
@@ -24,11 +24,13 @@ use Rattle.words.proofs.BitLaws.{has-empty}
 use Rattle.bisimulation.specs.Systems.{System, stays}
 use Rattle.bisimulation.specs.Maker.{chain_along}
 use Rattle.bisimulation.proofs.RunLaws.{along-bound}
-use Rattle.sides.specs.Side.{related_part, related_to, system_in}
+use Rattle.sides.specs.declared.Side.{Side}
+use Rattle.sides.specs.Side.{related_to, system_in}
 use Rattle.sides.specs.Views.{view_in}
-use Rattle.sides.proofs.StoreLaws.{cell-past}
+use Rattle.sides.proofs.ViewLaws.{related-past}
 use Rattle.lengths.specs.Chains.{open_by}
-use Rattle.lengths.specs.OpenSteps.{kept_system, every, is_open, longest, Ends, Open}
+use Rattle.lengths.specs.OpenSteps.{kept_at, kept_system, every, is_open, longest, Ends, Open}
+use Rattle.lengths.specs.declared.Kept.{Kept}
 use Rattle.lengths.proofs.CellLaws.{zeros}
 
 -- ---- one round over steps all of which count
@@ -52,25 +54,17 @@ module _ (S : System) (lengths : ℕ → ℕ) where
         ∙ ap (λ (b : Bool). max (longest S every lengths j s) (cond (b && true) (suc (lengths (S.to j))) 0)) (ne_eqb (S.from j) s (λ e. d (sym e)))
         ∙ omega arith
 
-    module _ {row : List ℕ} (e : row ≡ tabulate 64 (longest S every lengths j)) {x more : ℕ} (x-is : x ≡ S.from j) (more-is : more ≡ suc (lengths (S.to j)))
-        (h : x < 64) where
-      at_x : get_or row x 0 ≡ longest S every lengths j (S.from j)
-      at_x = ap (λ (l : List ℕ). get_or l x 0) e ∙ get_or-tabulate 64 x (longest S every lengths j) h ∙ ap (longest S every lengths j) x-is
-
-      -- the step gives more
-      pub longest-raise : get_or row x 0 < more → set row x more ≡ tabulate 64 (longest S every lengths (j + 1))
-      longest-raise l =
-          ap (λ (r : List ℕ). set r x more) e
-          ∙ tabulate-set 64 x more (longest S every lengths j) (longest S every lengths (j + 1)) h (rw (x-is, longest-here) (omega (arith, at_x)))
-          (λ s k d. sym (longest-other s (λ q. d (q ∙ sym x-is))))
-
-      -- the step gives no more
-      pub longest-stay : more ≤ get_or row x 0 → row ≡ tabulate 64 (longest S every lengths (j + 1))
-      longest-stay l =
-          e ∙ tabulate-cong 64 _ _ (λ s k. elim (ℕ_discrete s (S.from j)) [
-            | yes q ↦ rw (q, longest-here) (omega (arith, at_x))
-            | no q ↦ sym (longest-other s q)
-          ])
+    -- a state keeps its length or gets that of the step
+    pub longest-next : {row : List ℕ} → row ≡ tabulate 64 (longest S every lengths j) → {x more : ℕ} → x ≡ S.from j → more ≡ suc (lengths (S.to j)) → x < 64
+        → set row x (max (get_or row x 0) more) ≡ tabulate 64 (longest S every lengths (j + 1))
+    longest-next {row} e {x} {more} x-is more-is h =
+        ap (λ (r : List ℕ). set r x (max (get_or row x 0) more)) e
+        ∙ tabulate-set 64 x (max (get_or row x 0) more) (longest S every lengths j) (longest S every lengths (j + 1)) h
+        (omega (arith, at_x, longest-here) ∙ ap (longest S every lengths (j + 1)) (sym x-is))
+        (λ s k d. sym (longest-other s (λ q. d (q ∙ sym x-is))))
+      where
+        at_x : get_or row x 0 ≡ longest S every lengths j (S.from j)
+        at_x = ap (λ (l : List ℕ). get_or l x 0) e ∙ get_or-tabulate 64 x (longest S every lengths j) h ∙ ap (longest S every lengths j) x-is
 
   pub longest-start : replicate 64 0 ≡ tabulate 64 (longest S every lengths 0)
   longest-start = zeros 64 ∙ tabulate-cong 64 _ _ (λ s l. sym (longest-none every s))
@@ -88,90 +82,89 @@ along-more : (S : System) (test : ℕ → Bool) (k s : ℕ) → chain_along S te
 unfolding chain_along longest
 along-more S test k s = refl
 
-module _ (from to : List ℕ) (count : ℕ) where
+module _ (kept : List Kept) where
   abbrev S : System
-  S = kept_system from to count
+  S = kept_system kept
 
   -- chains of no step
-  pub kept-none : {k : ℕ} → k ≡ 0 → replicate 64 0 ≡ tabulate 64 (chain_along S every k)
+  pub kept-none : replicate 64 0 ≡ tabulate 64 (chain_along S every 0)
   unfolding chain_along
-  kept-none e = rw e (zeros 64)
+  kept-none = zeros 64
 
-  -- a round after k - 1 gives k
-  pub kept-round : (k : ℕ) {before row : List ℕ} → (k ≡ 0 → ⊥) → Ends from to count → before ≡ tabulate 64 (chain_along S every (k - 1))
-      → row ≡ tabulate 64 (longest S every (λ u. get_or before u 0) count) → row ≡ tabulate 64 (chain_along S every k)
-  kept-round zero p ends b r = absurd (p refl)
-  kept-round (suc k) {before} p ends b r =
+  -- a round after k gives k + 1
+  pub kept-round : (k : ℕ) {before row : List ℕ} → Ends kept → before ≡ tabulate 64 (chain_along S every k)
+      → row ≡ tabulate 64 (longest S every (λ u. get_or before u 0) (length kept)) → row ≡ tabulate 64 (chain_along S every (k + 1))
+  kept-round k {before} ends b r =
       r ∙ tabulate-cong 64 _ _ (λ s l.
-      longest-cong S every (λ u. get_or before u 0) (chain_along S every k) count s
+      longest-cong S every (λ u. get_or before u 0) (chain_along S every k) (length kept) s
       (λ j m.
-      ap (λ (x : List ℕ). get_or x (byte_at to j) 0) b ∙ get_or-tabulate 64 (byte_at to j) _ (ends.to< j m)
-      ∙ ap (λ (i : ℕ). chain_along S every i (byte_at to j)) (sub-one (suc k)))
-      ∙ sym (along-more S every k s))
+      ap (λ (x : List ℕ). get_or x (S.to j) 0) b ∙ get_or-tabulate 64 (S.to j) _ (ends.to< j m))
+      ∙ sym (along-more S every k s) ∙ ap (λ (i : ℕ). chain_along S every i s) (sym (add-one k)))
 
-  -- lengths for k - 1 leave room for one more in a byte
-  pub kept-room : {k : ℕ} {before : List ℕ} → (k ≡ 0 → ⊥) → k < 256 → before ≡ tabulate 64 (chain_along S every (k - 1)) → (i : ℕ) → get_or before i 0 < 255
-  kept-room {k} {before} p h b i = elim (dec_lt i 64) [
-    | yes l ↦ (let z : k - 1 < 255 = omega arith in omega (arith, ap (λ (x : List ℕ). get_or x i 0) b ∙ get_or-tabulate 64 i _ l, along-bound S every (k - 1) i))
-    | no l ↦ omega (arith, ap (λ (x : List ℕ). get_or x i 0) b ∙ get_or-past (tabulate 64 (chain_along S every (k - 1))) i (rw length-tabulate (omega arith)))
+  -- lengths for k leave room for one more in a byte
+  pub kept-room : {k : ℕ} {before : List ℕ} → k < 255 → before ≡ tabulate 64 (chain_along S every k) → (i : ℕ) → get_or before i 0 < 255
+  kept-room {k} {before} h b i = elim (dec_lt i 64) [
+    | yes l ↦ omega (arith, ap (λ (x : List ℕ). get_or x i 0) b ∙ get_or-tabulate 64 i _ l, along-bound S every k i)
+    | no l ↦ omega (arith, ap (λ (x : List ℕ). get_or x i 0) b ∙ get_or-past (tabulate 64 (chain_along S every k)) i (rw length-tabulate (omega arith)))
   ]
 
 -- ---- the open steps
 
-module _ (from to : List ℕ) (c a b : ℕ) (room : c < length from) (room' : c < length to) where
-  -- the lists with one step more
-  from-before : (i : ℕ) → i < c → get_or (set from c a) i 0 ≡ get_or from i 0
-  from-before i h = get_or-set_other from c i a 0 (λ e. omega arith)
+module _ (kept : List Kept) (step : Kept) where
+  -- the list with one step more
+  abbrev longer : List Kept
+  longer = kept ++ (step ∷ [])
 
-  to-before : (i : ℕ) → i < c → get_or (set to c b) i 0 ≡ get_or to i 0
-  to-before i h = get_or-set_other to c i b 0 (λ e. omega arith)
+  before-it : (i : ℕ) → i < length kept → kept_at longer i ≡ kept_at kept i
+  before-it i h = get_or-append kept (step ∷ []) (record { from = 0; to = 0 }) i h
 
-  kept-longest : (lengths : ℕ → ℕ) (s : ℕ) → longest (kept_system (set from c a) (set to c b) (c + 1)) every lengths (c + 1) s
-      ≡ max (longest (kept_system from to c) every lengths c s) (cond (eqb a s && true) (suc (lengths b)) 0)
+  at_it : kept_at longer (length kept) ≡ step
+  at_it = get_or_at kept step [] (record { from = 0; to = 0 }) (length kept) refl
+
+  kept-longest : (lengths : ℕ → ℕ) (s : ℕ) → longest (kept_system longer) every lengths (length longer) s
+      ≡ max (longest (kept_system kept) every lengths (length kept) s) (cond (eqb step.from s && true) (suc (lengths step.to)) 0)
   unfolding longest
   kept-longest lengths s =
-      most-more c (λ i. cond (eqb (get_or (set from c a) i 0) s && true) (suc (lengths (get_or (set to c b) i 0))) 0)
+      ap (λ (n : ℕ). most_below n (λ i. cond (eqb (kept_at longer i).from s && true) (suc (lengths (kept_at longer i).to)) 0))
+      (length-append kept (step ∷ []))
+      ∙ most-more (length kept) (λ i. cond (eqb (kept_at longer i).from s && true) (suc (lengths (kept_at longer i).to)) 0)
       ∙ ap₂ max
-      (most-cong c _ _ (λ i l. ap₂ (λ (x y : ℕ). cond (eqb x s && true) (suc (lengths y)) 0) (from-before i l) (to-before i l)))
-      (ap₂ (λ (x y : ℕ). cond (eqb x s && true) (suc (lengths y)) 0) (get_or-set_same from c a 0 room) (get_or-set_same to c b 0 room'))
+      (most-cong (length kept) _ _ (λ i l. ap (λ (k : Kept). cond (eqb k.from s && true) (suc (lengths k.to)) 0) (before-it i l)))
+      (ap (λ (k : Kept). cond (eqb k.from s && true) (suc (lengths k.to)) 0) at_it)
 
-  kept_small : a < 64 → ((i : ℕ) → i < c → get_or from i 0 < 64) → (i : ℕ) → i < c + 1 → get_or (set from c a) i 0 < 64
-  kept_small h all = below_more (λ (i : ℕ). get_or (set from c a) i 0 < 64) c (λ i l. rw (from-before i l) (all i l)) (rw (get_or-set_same from c a 0 room) h)
+  -- what holds of each kept step and of this one
+  kept-each : (P : Kept → Type 0) → P step → ((i : ℕ) → i < length kept → P (kept_at kept i)) → (i : ℕ) → i < length longer → P (kept_at longer i)
+  kept-each P h all i l =
+      below_more (λ (i : ℕ). P (kept_at longer i)) (length kept) (λ i l. subst P (sym (before-it i l)) (all i l)) (subst P (sym at_it) h) i
+      (subst (λ (n : ℕ). i < n) (length-append kept (step ∷ [])) l)
 
 module _ (S : System) (test : ℕ → Bool) where
   -- the length that step j gives s
   abbrev given : (ℕ → ℕ) → ℕ → ℕ → ℕ
   given lengths s j = cond (eqb (S.from j) s && test j) (suc (lengths (S.to j))) 0
 
-  pub open-start : Open S test 0 (replicate 256 0) (replicate 256 0) 0
+  pub open-start : Open S test 0 []
   open-start =
       record {
-        from-room = length-replicate {A = ℕ} 256 0;
-        to_room = length-replicate {A = ℕ} 256 0;
-        few = zero-le;
-        from< = λ i h. absurd (not-suc-le-zero h);
-        to< = λ i h. absurd (not-suc-le-zero h);
-        same = λ lengths s h. longest-none (kept_system (replicate 256 0) (replicate 256 0) 0) lengths every s ∙ sym (longest-none S lengths test s);
+        ends = record { from< = λ i h. absurd (not-suc-le-zero h); to< = λ i h. absurd (not-suc-le-zero h) };
+        same = λ lengths s h. longest-none (kept_system []) lengths every s ∙ sym (longest-none S lengths test s);
       }
 
-  module _ {j : ℕ} {from to : List ℕ} {count : ℕ} (o : Open S test j from to count) {r : Bool} (r-is : r ≡ is_open S test j) where
+  module _ {j : ℕ} {kept : List Kept} (o : Open S test j kept) {r : Bool} (r-is : r ≡ is_open S test j) where
     -- an open step is kept
-    pub open-keep : {a b : ℕ} → j < 256 → r ≡ true → a ≡ S.from j → b ≡ S.to j → b < 64 → Open S test (j + 1) (set from count a) (set to count b) (count + 1)
+    pub open-keep : {step : Kept} → r ≡ true → step.from ≡ S.from j → step.to ≡ S.to j → step.to < 64 → Open S test (j + 1) (kept ++ (step ∷ []))
     unfolding is_open longest
-    open-keep {a} {b} l h a-is b-is small =
+    open-keep {step} h a-is b-is small =
         let p = true-T _ (sym r-is ∙ h) in
-        let low : a < 64 = rw a-is (ltb→lt _ _ (and_l (ltb (S.from j) 64) (test j) p)) in
+        let low : step.from < 64 = rw a-is (ltb→lt _ _ (and_l (ltb (S.from j) 64) (test j) p)) in
         let passes : test j ≡ true = T_true _ (and_r (ltb (S.from j) 64) (test j) p) in
-        let room : count < length from = omega (arith, o.from-room, o.few) in
-        let room' : count < length to = omega (arith, o.to_room, o.few) in
         record {
-          from-room = length-set from count a ∙ o.from-room;
-          to_room = length-set to count b ∙ o.to_room;
-          few = omega (arith, o.few);
-          from< = kept_small from to count a b room room' low o.from<;
-          to< = kept_small to from count b a room' room small o.to<;
+          ends = record {
+            from< = kept-each kept step (λ k. k.from < 64) low o.ends.from<;
+            to< = kept-each kept step (λ k. k.to < 64) small o.ends.to<;
+          };
           same = λ lengths s k.
-              kept-longest from to count a b room room' lengths s
+              kept-longest kept step lengths s
               ∙ ap₂ max (o.same lengths s k)
               (ap₂ (λ (x y : ℕ). cond (eqb x s && true) (suc (lengths y)) 0) a-is b-is
               ∙ ap (λ (x : Bool). cond (eqb (S.from j) s && x) (suc (lengths (S.to j))) 0) (sym passes))
@@ -179,15 +172,11 @@ module _ (S : System) (test : ℕ → Bool) where
         }
 
     -- another one is not
-    pub open-skip : r ≡ false → Open S test (j + 1) from to count
+    pub open-skip : r ≡ false → Open S test (j + 1) kept
     unfolding is_open longest
     open-skip h =
         record {
-          from-room = o.from-room;
-          to_room = o.to_room;
-          few = omega (arith, o.few);
-          from< = o.from<;
-          to< = o.to<;
+          ends = o.ends;
           same = λ lengths s k.
               o.same lengths s k ∙ sym (most-more j (given lengths s)
               ∙ ap (max (most_below j (given lengths s))) (cond-false (eqb (S.from j) s && test j) (suc (lengths (S.to j))) 0 (λ b.
@@ -196,27 +185,24 @@ module _ (S : System) (test : ℕ → Bool) where
               ∙ omega arith);
         }
 
-  module _ (m : S.steps ≤ 256) {from to : List ℕ} {count : ℕ} (o : Open S test S.steps from to count) where
-    pub open-ends : Ends from to count
-    open-ends = record { few = omega (arith, o.few); from< = o.from<; to< = o.to< }
-
+  module _ {kept : List Kept} (o : Open S test S.steps kept) where
     -- the chains of all open steps are those of the side
-    open-chains : (k s : ℕ) → s < 64 → chain_along (kept_system from to count) every k s ≡ chain_along S test k s
+    open-chains : (k s : ℕ) → s < 64 → chain_along (kept_system kept) every k s ≡ chain_along S test k s
     unfolding chain_along
     open-chains zero s h = refl
     open-chains (suc k) s h =
-        along-more (kept_system from to count) every k s
-        ∙ longest-cong (kept_system from to count) every (chain_along (kept_system from to count) every k) (chain_along S test k) count s
-        (λ j l. open-chains k (byte_at to j) (o.to< j l))
+        along-more (kept_system kept) every k s
+        ∙ longest-cong (kept_system kept) every (chain_along (kept_system kept) every k) (chain_along S test k) (length kept) s
+        (λ j l. open-chains k (kept_at kept j).to (o.ends.to< j l))
         ∙ o.same (chain_along S test k) s h
         ∙ sym (along-more S test k s)
 
-    pub open_row : (k : ℕ) {row : List ℕ} → row ≡ tabulate 64 (chain_along (kept_system from to count) every k) → row ≡ tabulate 64 (chain_along S test k)
+    pub open_row : (k : ℕ) {row : List ℕ} → row ≡ tabulate 64 (chain_along (kept_system kept) every k) → row ≡ tabulate 64 (chain_along S test k)
     open_row k e = e ∙ tabulate-cong 64 _ _ (open-chains k)
 
 -- ---- the test of a step by the table
 
-module _ (ours theirs distances : List ℕ) (t j : ℕ) where
+module _ (ours theirs : Side) (distances : List ℕ) (t j : ℕ) where
   abbrev test : ℕ → Bool
   test = open_by (view_in ours theirs) distances t
 
@@ -264,6 +250,6 @@ module _ (ours theirs distances : List ℕ) (t j : ℕ) where
         ltb→lt ((system_in ours).from j) 64 (search and_l),
         elim (dec_lt ((system_in ours).to j) 64) [
           | yes l ↦ l
-          | no l ↦ absurd (false-not-T _ (ap (λ (x : ℕ). has_bit x t) (cell-past related_part ours ((system_in ours).to j) (omega arith)) ∙ has-empty t) r)
+          | no l ↦ absurd (false-not-T _ (ap (λ (x : ℕ). has_bit x t) (related-past ours ((system_in ours).to j) (omega arith)) ∙ has-empty t) r)
         ],
       )

@@ -4,7 +4,7 @@
 use Prim.Native.Nat.{ℕ, zero, suc, ◌+◌, ◌^◌, ◌≤◌, ◌<◌, zero-le}
 use mathlib.Core.Path.{◌≡◌, refl, sym, ap, ◌∙◌, subst}
 use mathlib.Core.Logic.{⊎_elim}
-use mathlib.Core.Bool.{Bool, true, false, not, ◌&&◌, ◌||◌, cond, false≢true}
+use mathlib.Core.Bool.{Bool, true, false, not, ◌&&◌, ◌||◌, false≢true}
 use mathlib.Core.List.{List}
 use native.Mathlib.Nat.{not-suc-le-zero}
 use native.Mathlib.Numerals.{add-one}
@@ -26,6 +26,7 @@ use Rattle.bisimulation.specs.Judge.{is2a}
 use Rattle.bisimulation.specs.Maker.{matches_within, distance}
 use Rattle.bisimulation.proofs.ClauseLaws.{is2a-i, is2a-e}
 use Rattle.bisimulation.proofs.RunLaws.{within-related}
+use Rattle.sides.specs.declared.Side.{Side}
 use Rattle.sides.specs.Side.{system_in, key_at, related_to}
 use Rattle.sides.specs.Views.{view_in}
 use Rattle.lengths.specs.Relaxing.{total, met_by, shortens, Bounds, Settled, Round, Zeroed}
@@ -200,15 +201,6 @@ module _ (v : View) (j : ℕ) where
   pub round-none : {row : List ℕ} → Bounds v j other.steps row → Round v j 0 row row false
   round-none {row} b = record { bounds = b; settled = λ e. settled-none row; same = λ e. refl; fell = λ e. absurd (false≢true e) }
 
-  -- rounds end: the sum of the lengths falls, or the round was the last
-  pub round-less : {e : ℕ} {before row : List ℕ} {changed was : Bool} → Round v j e before row changed → was ≡ true
-      → total row + cond changed 1 0 < total before + cond was 1 0
-  round-less {e} {before} {row} {changed} {was} r w = go changed refl
-    where
-      go : (c : Bool) → changed ≡ c → total row + cond c 1 0 < total before + cond was 1 0
-      go true q = rw w (omega (arith, r.fell q))
-      go false q = rw w (omega (arith, r.same q))
-
   -- one turn of the round, for the step from x to y
   module _ (small : (t : ℕ) → T (related from t) → t < 64) (word : ℕ) (is : (t : ℕ) → has_bit word t ≡ related from t)
       {e : ℕ} {before row : List ℕ} {changed : Bool} (r : Round v j e before row changed) {x y : ℕ} (x-is : x ≡ other.from e) (y-is : y ≡ other.to e) where
@@ -243,14 +235,14 @@ module _ (v : View) (j : ℕ) where
 
 -- ---- the start, by the words of the states related to the two ends of our step
 
-module _ (ours theirs : List ℕ) (j : ℕ) {from to : ℕ} (from_is : from ≡ related_to ours ((system_in ours).from j))
+module _ (ours theirs : Side) (j : ℕ) {from to : ℕ} (from_is : from ≡ related_to ours ((system_in ours).from j))
     (to_is : to ≡ related_to ours ((system_in ours).to j))
     {key : ℕ} (key-is : key ≡ key_at ours j) {e : ℕ} {row : List ℕ} (b : Bounds (view_in ours theirs) j e row) {m : Bool}
     (m-is : m ≡ met_by theirs from to key e) where
   -- their step e meets the obligation
   met-parts : T m → T (has_bit from ((system_in theirs).from e)) × T (has_bit to ((system_in theirs).to e)) × T (eqb (key_at theirs e) key)
   unfolding met_by
-  met-parts h = let g = subst T m-is h in (search (and_l, and_r), search (and_l, and_r), search (and_l, and_r))
+  met-parts h = let g = subst T m-is h in (search and_l, search (and_l, and_r), search (and_l, and_r))
 
   pub met-from : from < 2 ^ 64 → m ≡ true → (system_in theirs).from e < 64
   met-from small h = has-lt from ((system_in theirs).from e) small (met-parts (true-T m h)).0
@@ -290,7 +282,7 @@ zeroed-more {word} {more} {row} {x} z h l e =
     }
 
 -- where every state related to the one that the step leaves is 0, no step shortens a length
-pub zeroed-settled : (ours theirs : List ℕ) (j : ℕ) {from word rest : ℕ} {row : List ℕ} → from ≡ related_to ours ((system_in ours).from j) → Zeroed word row
+pub zeroed-settled : (ours theirs : Side) (j : ℕ) {from word rest : ℕ} {row : List ℕ} → from ≡ related_to ours ((system_in ours).from j) → Zeroed word row
     → rest ≡ without_bits from word → {empty changed : Bool} → empty ≡ eqb rest 0 → changed ≡ not empty → changed ≡ false
     → Settled (view_in ours theirs) j (system_in theirs).steps row
 zeroed-settled ours theirs j {from} {word} {rest} {row} ef z er {empty} {changed} ee ec n =

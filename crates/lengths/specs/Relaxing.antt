@@ -4,6 +4,7 @@ use Rattle.lists.specs.Below.{sum_below}
 use Rattle.words.specs.Bits.{has_bit}
 use Rattle.bisimulation.specs.Systems.{View}
 use Rattle.bisimulation.specs.Maker.{matches_within}
+use Rattle.sides.specs.declared.Side.{Side}
 use Rattle.sides.specs.Side.{system_in, key_at}
 
 -- The sum of the lengths.
@@ -11,7 +12,7 @@ unfoldable pub total : List ℕ → ℕ
 total row = sum_below 64 (λ t. get_or row t 0)
 
 -- The other's step e meets the obligation by 2a, by the words of the states related to the ends of the own step and by its key.
-unfoldable pub met_by : (theirs : List ℕ) → (from to key e : ℕ) → Bool
+unfoldable pub met_by : (theirs : Side) → (from to key e : ℕ) → Bool
 met_by theirs from to key e = has_bit from ((system_in theirs).from e) && (has_bit to ((system_in theirs).to e) && eqb (key_at theirs e) key)
 
 -- A step from x to y shortens the length at x, where x is in the word and the step is silent.

@@ -9,6 +9,7 @@ use Rattle.bisimulation.specs.Systems.{View}
 use Rattle.answers.specs.declared.Answer.{Answer}
 use Rattle.certificates.specs.Layout.{sizes_of}
 use Rattle.certificates.specs.CertificateModel.{AreBytes, certified_ranks}
+use Rattle.sides.specs.declared.Side.{Side}
 use Rattle.sides.specs.Views.{view_in}
 use Rattle.sides.proofs.ViewLaws.{states-few, steps-few}
 use Rattle.certified_sides.specs.declared.Sides.{Sides}
@@ -26,7 +27,7 @@ use Rattle.lister.specs.OnSides.{all_text}
 use Rattle.lister.proofs.ListingLaws.{text-is, listing-short}
 
 -- The text read off two sides is what is printed for three files, and not too long.
-pub record Accepts (left right c ours theirs : List ℕ) (own other : Run) : Type 0 where
+pub record Accepts (left right c : List ℕ) (ours theirs : Side) (own other : Run) : Type 0 where
   pub text : all_text ours theirs c own other ≡ printed left right c
   pub short : length (all_text ours theirs c own other) ≤ 557056
 

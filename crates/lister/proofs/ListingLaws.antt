@@ -1,4 +1,6 @@
 -- The text that is read off two sides is that of the listing, and it is not long: at most 32,768 lines of at most 17 bytes. Assumes nothing.
+use Rattle.outcomes.specs.declared.Outcome.{Outcome}
+use Rattle.outcomes.specs.declared.Outcome.TheVariants.{Met, Failed}
 use Prim.Native.Nat.{ℕ, ◌*◌, ◌≤◌, ◌<◌, zero-le}
 use mathlib.Core.Path.{◌≡◌, refl, sym, ap, ap₂, ◌∙◌}
 use mathlib.Core.Bool.{cond}
@@ -12,12 +14,11 @@ use Rattle.lists.proofs.FlatLaws.{flat_append, flat-join, flat-when, flat-map, f
 use Rattle.words.specs.Bits.{has_bit}
 use Rattle.bisimulation.specs.Systems.{View, Ranks, WellFormed, flip, swap}
 use Rattle.bisimulation.proofs.ClauseLaws.{flip-formed}
+use Rattle.sides.specs.declared.Side.{Side}
 use Rattle.sides.specs.Side.{related_to, system_in, steps_in}
 use Rattle.sides.specs.Views.{view_in}
 use Rattle.outcomes.specs.declared.Clause.{Clause}
 use Rattle.outcomes.specs.declared.Clause.TheVariants.{Step, Stutter, Match}
-use Rattle.outcomes.specs.declared.Outcome.{Outcome}
-use Rattle.outcomes.specs.declared.Outcome.TheVariants.{Met, Failed}
 use Rattle.outcomes.specs.Obligation.{clause_number, obligation_at}
 use Rattle.obligations.specs.declared.Run.{Run}
 use Rattle.obligations.specs.Outcomes.{HasOutcome}
@@ -34,7 +35,7 @@ use Rattle.lister.specs.OnSides.{step_text, steps_text, pair_text, row_text, all
 
 -- ---- the text
 
-module _ (ours theirs certificate : List ℕ) (left right : Run) where
+module _ (ours theirs : Side) (certificate : List ℕ) (left right : Run) where
   -- The text of a check, as it is read off.
   check_text : Check → List ℕ
   check_text (labels_of s t) = []

@@ -1,10 +1,10 @@
 -- The listing (document 02, Ask 2): where the judge accepts, one line for each obligation in judging order, and on a refusal the judge's six numbers.
+use Rattle.outcomes.specs.declared.Outcome.{Outcome}
+use Rattle.outcomes.specs.declared.Outcome.TheVariants.{Met, Failed}
 use Rattle.std.specs.Prelude.{ℕ, cond, eqb}
 use mathlib.Core.List.{List, [], ◌∷◌, flat_map}
 use Rattle.bisimulation.specs.Systems.{View, Ranks, flip, swap}
 use Rattle.certificates.specs.CertificateModel.{certified_view, certified_ranks}
-use Rattle.outcomes.specs.declared.Outcome.{Outcome}
-use Rattle.outcomes.specs.declared.Outcome.TheVariants.{Met, Failed}
 use Rattle.outcomes.specs.Obligation.{clause_number, obligation_at}
 use Rattle.obligations.specs.Judging.{Check, labels_of, left_step, right_step, checks}
 use Rattle.checker.specs.Judge.{judge_answer}

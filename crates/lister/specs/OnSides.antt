@@ -3,6 +3,7 @@ use Rattle.std.specs.Prelude.{ℕ, cond}
 use mathlib.Core.List.{List, [], ◌++◌, flat_map}
 use Rattle.lists.specs.Lists.{join_below}
 use Rattle.words.specs.Bits.{has_bit}
+use Rattle.sides.specs.declared.Side.{Side}
 use Rattle.sides.specs.Side.{system_in, related_to, steps_in}
 use Rattle.obligations.specs.declared.Place.{Place}
 use Rattle.obligations.specs.declared.Run.{Run}
@@ -11,16 +12,16 @@ use Rattle.obligations.specs.OnSides.{obligation_in}
 use Rattle.lister.specs.Listing.{outcome_lines, line_text}
 
 -- The line of our step j at the place.
-unfoldable pub step_text : (ours theirs certificate : List ℕ) → Run → Place → ℕ → List ℕ
+unfoldable pub step_text : (ours theirs : Side) (certificate : List ℕ) → Run → Place → ℕ → List ℕ
 step_text ours theirs certificate run place j =
     flat_map line_text
     (outcome_lines place.side (left_state place) (right_state place) j (obligation_in ours theirs certificate run j place.other))
 
 -- The lines of our steps from the place's own state.
-unfoldable pub steps_text : (ours theirs certificate : List ℕ) → Run → Place → List ℕ
+unfoldable pub steps_text : (ours theirs : Side) (certificate : List ℕ) → Run → Place → List ℕ
 steps_text ours theirs certificate run place = flat_map (step_text ours theirs certificate run place) (steps_in ours place.own)
 
-module _ (ours theirs certificate : List ℕ) (left right : Run) where
+module _ (ours theirs : Side) (certificate : List ℕ) (left right : Run) where
   -- The lines of the pair s, t: the left steps from s, then the right steps from t; none where the two are not related.
   unfoldable pub pair_text : ℕ → ℕ → List ℕ
   pair_text s t =

@@ -11,10 +11,9 @@ ghost use Rattle.lister.specs.OnSides.{step_text, steps_text, pair_text, row_tex
 
 use certified_sides::sides_of;
 use checker::judge;
-use obligations::{Place, Run, obligation_at};
+use obligations::{BothRanks, Place, Ranks, obligation_at};
 use outcomes::Outcome;
-use sides::{Side, first, next, related, states};
-use tables::Head;
+use sides::View;
 use texts::{put_answer, put_six};
 
 // The most bytes that are printed, 32,768 lines of 17 bytes, and room for one line more of whatever numbers.
@@ -22,21 +21,18 @@ pub const MOST: usize = 557182;
 
 // Puts the line of our step j at the place, if its obligation is met, and answers where it ends.
 fn list_step(
-    ours: &Side,
-    theirs: &Side,
-    certificate: &[u8],
-    run: Run,
+    view: View,
+    ranks: Ranks,
     place: Place,
     j: usize,
     output: &mut [u8],
     at: usize,
 ) -> usize
     requires { at + most_text ≤ length output.old }
-    ensures { Wrote (step_text ours.now theirs.now certificate.now run place j) at result
+    ensures { Wrote (step_text view.entry.ours.now view.entry.theirs.now ranks.entry.certificate.now ranks.entry.run place j) at result
         output.old output.new }
 {
-    let outcome = obligation_at(ours, theirs, certificate, run, j, place.other);
-    let Outcome::Met(clause, state) = outcome else {
+    let Outcome::Met(clause, state) = obligation_at(view, ranks, j, place.other) else {
         return at;
     };
     put_six(
@@ -44,7 +40,7 @@ fn list_step(
         place.left(),
         place.right(),
         j,
-        clause.number(),
+        usize::from(clause),
         state,
         output,
         at,
@@ -52,111 +48,80 @@ fn list_step(
 }
 
 // Puts the lines of our steps from the place's own state, in the order in which the links lead along them.
-fn list_steps(
-    ours: &Side,
-    theirs: &Side,
-    certificate: &[u8],
-    run: Run,
-    place: Place,
-    output: &mut [u8],
-    at: usize,
-) -> usize
-    requires { at + length (steps_text ours.now theirs.now certificate.now run place) + most_text ≤ length output.old }
-    ensures { Wrote (steps_text ours.now theirs.now certificate.now run place) at result
+fn list_steps(view: View, ranks: Ranks, place: Place, output: &mut [u8], at: usize) -> usize
+    requires { at + length (steps_text view.ours.now view.theirs.now ranks.certificate.now ranks.run place) + most_text ≤ length output.old }
+    ensures { Wrote (steps_text view.entry.ours.now view.entry.theirs.now ranks.entry.certificate.now ranks.entry.run place) at result
         output.old output.new }
 {
     let mut end = at;
-    let mut j = first(ours, place.own);
-    while j < Head::MAX_STEPS {
-        end = list_step(ours, theirs, certificate, run, place, j, output, end);
-        let later = next(ours, j);
-        if later <= j {
-            return end;
-        }
-        j = later;
+    for j in view.ours.steps_from(place.own) {
+        end = list_step(view, ranks, place, j, output, end);
     }
     end
 }
 
 // Puts the lines of the pair s, t: of the left steps from s, then of the right steps from t; none where the two are not related.
 fn list_pair(
-    ours: &Side,
-    theirs: &Side,
-    certificate: &[u8],
-    left: Run,
-    right: Run,
+    view: View,
+    ranks: BothRanks,
     s: usize,
     t: usize,
     output: &mut [u8],
     at: usize,
 ) -> usize
-    requires { at + length (pair_text ours.now theirs.now certificate.now left right s t) + most_text ≤ length output.old }
-    ensures { Wrote (pair_text ours.now theirs.now certificate.now left right s t) at result
+    requires { at + length (pair_text view.ours.now view.theirs.now ranks.certificate.now ranks.left ranks.right s t) + most_text
+        ≤ length output.old }
+    ensures { Wrote
+        (pair_text view.entry.ours.now view.entry.theirs.now ranks.entry.certificate.now ranks.entry.left ranks.entry.right s t) at result
         output.old output.new }
 {
-    let states_of = related(ours, s);
+    let states_of = view.ours.related(s);
     if !states_of.has(t) {
         return at;
     }
+    let left = ranks.of_left();
     let from_s = Place {
         side: 0,
         own: s,
         other: t,
     };
+    let turned = view.turned();
+    let right = ranks.of_right();
     let from_t = Place {
         side: 1,
         own: t,
         other: s,
     };
-    let end = list_steps(ours, theirs, certificate, left, from_s, output, at);
-    list_steps(theirs, ours, certificate, right, from_t, output, end)
+    let end = list_steps(view, left, from_s, output, at);
+    list_steps(turned, right, from_t, output, end)
 }
 
 // Puts the lines of the left state s with the right states in rising order.
-fn list_row(
-    ours: &Side,
-    theirs: &Side,
-    certificate: &[u8],
-    left: Run,
-    right: Run,
-    s: usize,
-    output: &mut [u8],
-    at: usize,
-) -> usize
-    requires { at + length (row_text ours.now theirs.now certificate.now left right s) + most_text ≤ length output.old }
-    ensures { Wrote (row_text ours.now theirs.now certificate.now left right s) at result
+fn list_row(view: View, ranks: BothRanks, s: usize, output: &mut [u8], at: usize) -> usize
+    requires { at + length (row_text view.ours.now view.theirs.now ranks.certificate.now ranks.left ranks.right s) + most_text
+        ≤ length output.old }
+    ensures { Wrote
+        (row_text view.entry.ours.now view.entry.theirs.now ranks.entry.certificate.now ranks.entry.left ranks.entry.right s) at result
         output.old output.new }
 {
-    let n = states(theirs);
     let mut end = at;
-    let mut t: usize = 0;
-    while t < n {
-        end = list_pair(ours, theirs, certificate, left, right, s, t, output, end);
-        t += 1;
+    for t in 0..view.theirs.states() {
+        end = list_pair(view, ranks, s, t, output, end);
     }
     end
 }
 
 // Puts the lines of all left states in rising order.
-fn list_all(
-    ours: &Side,
-    theirs: &Side,
-    certificate: &[u8],
-    left: Run,
-    right: Run,
-    output: &mut [u8],
-    at: usize,
-) -> usize
-    requires { at + length (all_text ours.now theirs.now certificate.now left right) + most_text ≤ length output.old }
-    ensures { Wrote (all_text ours.now theirs.now certificate.now left right) at result
+fn list_all(view: View, ranks: BothRanks, output: &mut [u8], at: usize) -> usize
+    requires { at + length (all_text view.ours.now view.theirs.now ranks.certificate.now ranks.left ranks.right) + most_text
+        ≤ length output.old }
+    ensures { Wrote
+        (all_text view.entry.ours.now view.entry.theirs.now ranks.entry.certificate.now ranks.entry.left ranks.entry.right) at result
         output.old output.new }
 {
-    let n = states(ours);
     let mut end = at;
-    let mut s: usize = 0;
-    while s < n {
-        end = list_row(ours, theirs, certificate, left, right, s, output, end);
-        s += 1;
+    for s in 0..view.ours.states() {
+        end = list_row(view, ranks, s, output, end);
     }
     end
 }
@@ -170,18 +135,11 @@ fn list_accepted(left: &[u8], right: &[u8], certificate: &[u8], output: &mut [u8
         output.old output.new }
 {
     let sides = sides_of(left, right, certificate);
-    let ours = sides.ours;
-    let theirs = sides.theirs;
-    let sizes = sides.sizes;
-    list_all(
-        &ours,
-        &theirs,
-        certificate,
-        Run::left(sizes),
-        Run::right(sizes),
-        output,
-        0,
-    )
+    let view = View {
+        ours: &sides.ours,
+        theirs: &sides.theirs,
+    };
+    list_all(view, BothRanks::of(certificate, sides.sizes), output, 0)
 }
 
 // Puts what the program prints for three byte strings, and answers how many bytes that are: where the judge accepts, the line of each obligation in judging

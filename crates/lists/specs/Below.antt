@@ -1,5 +1,5 @@
 -- Bounded searches: tests and numbers over the indices below a bound. One family serves the theory, the readers, the judge and the maker.
-use Rattle.std.specs.Prelude.{ℕ, zero, suc, ◌+◌, ◌≤◌, max, Bool, true, false, ◌&&◌, ◌||◌, cond}
+use Rattle.std.specs.Prelude.{ℕ, zero, suc, ◌+◌, ◌≤◌, ltb, max, Bool, true, false, ◌&&◌, ◌||◌, cond, Option, Some, None}
 
 -- Some index below the bound passes the test.
 unfoldable pub any_below : ℕ → (ℕ → Bool) → Bool
@@ -15,6 +15,14 @@ all_below (suc n) f = f 0 && all_below n (λ i. f (suc i))
 unfoldable pub first_below : ℕ → (ℕ → Bool) → ℕ
 first_below zero f = 0
 first_below (suc n) f = cond (f 0) 0 (suc (first_below n (λ i. f (suc i))))
+
+-- A number below the bound, and none for the bound or more.
+abbrev pub some_below : ℕ → ℕ → Option ℕ
+some_below n x = cond (ltb x n) (Some x) None
+
+-- The least index below the bound that passes the test, if there is one.
+abbrev pub found_below : ℕ → (ℕ → Bool) → Option ℕ
+found_below n f = some_below n (first_below n f)
 
 -- x is the smallest number with the property.
 abbrev pub Smallest : (ℕ → Type 0) → ℕ → Type 0

@@ -5,19 +5,12 @@ ghost use Rattle.std.specs.Prelude.{◌≡◌, ◌+◌, ◌^◌, ◌≤◌, ◌<
 ghost use Rattle.lists.specs.Lists.{part, put_front, put_at};
 ghost use Rattle.lists.specs.Numbers.{byte_at, big_endian, big_bytes};
 
-// A byte as a usize.
-fn wide(b: u8) -> usize
-    ensures { result ≡ b }
-{
-    b as usize
-}
-
 // The byte at i, and 0 past the end.
 pub fn byte(s: &[u8], i: usize) -> usize
     ensures value { result ≡ byte_at s.now i }
     ensures small { result < 256 }
 {
-    if i < s.len() { wide(s[i]) } else { 0 }
+    if i < s.len() { usize::from(s[i]) } else { 0 }
 }
 
 // The byte i places after at, and 0 past the end: at + i may lie beyond the largest index.
@@ -25,13 +18,11 @@ fn byte_after(s: &[u8], at: usize, i: usize) -> usize
     ensures value { result ≡ byte_at s.now (at + i) }
     ensures small { result < 256 }
 {
-    if s.len() <= at {
-        return 0;
+    if at < s.len() && i < s.len() - at {
+        byte(s, at + i)
+    } else {
+        0
     }
-    if s.len() - at <= i {
-        return 0;
-    }
-    byte(s, at + i)
 }
 
 // The number in the k bytes from at on, the high byte first; past the end stand zeros.
@@ -41,10 +32,8 @@ fn number(s: &[u8], at: usize, k: usize) -> u64
     ensures small { result < 256 ^ k }
 {
     let mut x: u64 = 0;
-    let mut i: usize = 0;
-    while i < k {
+    for i in 0..k {
         x = x * 256 + byte_after(s, at, i) as u64;
-        i += 1;
     }
     x
 }
@@ -68,40 +57,24 @@ pub fn read_be64(s: &[u8], at: usize) -> u64
 pub fn read_be(s: &[u8], at: usize, k: usize) -> u64
     ensures { result ≡ big_endian s.now at (min k 8) }
 {
-    if 8 < k {
-        return number(s, at, 8);
-    }
-    number(s, at, k)
+    number(s, at, k.min(8))
 }
 
 // The bytes from a up to e, as far as there are any.
 pub fn part_of(s: &[u8], a: usize, e: usize) -> &[u8]
     ensures { result.now ≡ part s.now a e }
 {
-    if s.len() <= a {
-        let n = s.len();
-        return &s[n..];
-    }
-    if e <= a {
-        return &s[a..a];
-    }
-    if s.len() <= e {
-        return &s[a..];
-    }
-    &s[a..e]
+    let from = a.min(s.len());
+    let to = e.clamp(from, s.len());
+    &s[from..to]
 }
 
 // Writes the front over the first bytes of the output; an output that is too short stays as it is.
 pub fn put_front(front: &[u8], output: &mut [u8])
     ensures { output.new ≡ put_front front.now output.old }
 {
-    if output.len() < front.len() {
-        return;
-    }
-    let mut i: usize = 0;
-    while i < front.len() {
-        output[i] = front[i];
-        i += 1;
+    if front.len() <= output.len() {
+        output[..front.len()].copy_from_slice(front);
     }
 }
 
@@ -109,16 +82,11 @@ pub fn put_front(front: &[u8], output: &mut [u8])
 pub fn put_be(output: &mut [u8], at: usize, k: usize, number: u64)
     ensures { output.new ≡ put_at at (big_bytes k number) output.old }
 {
-    if output.len() < at {
-        return;
-    }
-    if output.len() - at < k {
+    if output.len() < at || output.len() - at < k {
         return;
     }
     let mut x = number;
-    let mut i: usize = k;
-    while 0 < i {
-        i -= 1;
+    for i in (0..k).rev() {
         output[at + i] = (x % 256) as u8;
         x /= 256;
     }

@@ -6,11 +6,19 @@ use lib.ListN.{length, replicate, get_or-replicate, length-replicate}
 use native.Mathlib.Omega.{arith}
 use borrow.Rule.Slice.PartMut.{put_mid}
 use Rattle.lists.specs.Lists.{tabulate, grid, part, put_front}
-use Rattle.lists.proofs.FillLaws.{length-tabulate, Rows, rows_none, rows_more, put-front-whole}
+use Rattle.lists.proofs.FillLaws.{length-tabulate, Rows, rows_none, rows_more, row_fits, part_length, put-front-whole}
 use Rattle.bisimulation.specs.Systems.{View}
 use Rattle.bisimulation.specs.Maker.{distance}
 use Rattle.lengths.specs.Cells.{distance_at}
-use Rattle.lengths.proofs.CellLaws.{distance-past, distances-at, rows-room, rows-part, rows-rest}
+use Rattle.lengths.proofs.CellLaws.{distance-past, distances-at, rows-rest}
+
+-- the next row has room
+module _ (n : ℕ) {j a : ℕ} {f : ℕ → ℕ → ℕ} {d at : List ℕ} (w : Rows j a 64 f d at) (len : length d ≡ n * 64) (h : j < n) where
+  rows-room : a + 64 ≤ length at
+  rows-room = omega (arith, w.at, w.rows.len, row_fits j n 64 h)
+
+  rows-part : length (part at a (a + 64)) ≡ 64
+  rows-part = part_length at a 64 rows-room
 
 -- a row of 64 lengths is put at the front of the part that is lent
 rows-put-front : (n : ℕ) {j a : ℕ} {f : ℕ → ℕ → ℕ} {d at : List ℕ} → Rows j a 64 f d at → length d ≡ n * 64 → j < n

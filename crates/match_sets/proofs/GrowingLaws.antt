@@ -27,6 +27,7 @@ use Rattle.bisimulation.specs.Judge.{is2a}
 use Rattle.bisimulation.specs.Maker.{matches_within, distance}
 use Rattle.bisimulation.proofs.ClauseLaws.{is2a-i, is2a-e}
 use Rattle.bisimulation.proofs.RunLaws.{within-related}
+use Rattle.sides.specs.declared.Side.{Side}
 use Rattle.sides.specs.Side.{system_in, key_at, related_to}
 use Rattle.sides.specs.Views.{view_in}
 use Rattle.match_sets.specs.Sets.{AfterRounds}
@@ -303,7 +304,7 @@ module _ (v : View) (j : ℕ) where
 -- ---- the words as the code joins them
 
 -- the first set, of the states from which a step with our key enters a state related to the one that our step enters
-module _ (ours theirs : List ℕ) (j : ℕ) where
+module _ (ours theirs : Side) (j : ℕ) where
   abbrev v : View
   v = view_in ours theirs
 

@@ -18,6 +18,7 @@ use Rattle.lists.proofs.FillLaws.{get_or-past}
 use Rattle.words.specs.Bits.{has_bit, add_bit}
 use Rattle.words.proofs.BitLaws.{has-lt, has-empty, has-or, has-add, has-add-below, add-word, or_word}
 use Rattle.bisimulation.specs.Systems.{System}
+use Rattle.sides.specs.declared.Side.{Side}
 use Rattle.sides.specs.Side.{system_in, key_at}
 use Rattle.match_sets.specs.Predecessors.{with_predecessor, Predecessors, ComeFrom, enters_by, EnterBy}
 
@@ -144,7 +145,7 @@ module _ (words : List ℕ) (states : ℕ) where
 
 -- ---- the states from which steps with a key enter a target
 
-module _ (theirs : List ℕ) (key target : ℕ) where
+module _ (theirs : Side) (key target : ℕ) where
   pub enter-none : {found : ℕ} → found ≡ 0 → EnterBy theirs key target 0 found
   enter-none e = record { found< = rw e (omega arith); step = λ x h. absurd (empty-none x e h); all = λ i l. absurd (not-suc-le-zero l) }
 

@@ -3,6 +3,7 @@ use Rattle.std.specs.Prelude.{ℕ, ◌^◌, ◌<◌, ◌≡◌, Bool, cond, ◌&
 use Rattle.words.specs.Bits.{has_bit, add_bit}
 use Rattle.bisimulation.specs.Systems.{System}
 use Rattle.tables.specs.Table.{max_states}
+use Rattle.sides.specs.declared.Side.{Side}
 use Rattle.sides.specs.Side.{system_in, key_at}
 
 -- The words with x in the word of y; a state of 64 or more has no word.
@@ -23,11 +24,11 @@ pub record ComeFrom (words : List ℕ) (states u found : ℕ) : Type 0 where
   pub all : (x y : ℕ) → y < u → T (has_bit states y) → T (has_bit (get_or words y 0) x) → T (has_bit found x)
 
 -- Their step e has this key and enters a state of the target.
-unfoldable pub enters_by : (theirs : List ℕ) (key target e : ℕ) → Bool
+unfoldable pub enters_by : (theirs : Side) (key target e : ℕ) → Bool
 enters_by theirs key target e = eqb (key_at theirs e) key && has_bit target ((system_in theirs).to e)
 
 -- The states found are those from which one of their first m steps, with this key, enters a state of the target.
-pub record EnterBy (theirs : List ℕ) (key target m found : ℕ) : Type 0 where
+pub record EnterBy (theirs : Side) (key target m found : ℕ) : Type 0 where
   pub found< : found < 2 ^ 64
   pub step : (x : ℕ) → T (has_bit found x) → (e : ℕ) × (e < m) × T (enters_by theirs key target e) × ((system_in theirs).from e ≡ x)
   pub all : (e : ℕ) → e < m → T (enters_by theirs key target e) → (system_in theirs).from e < max_states → T (has_bit found ((system_in theirs).from e))

@@ -2,7 +2,7 @@
 // a state's distance is the round in which it came in.
 #![tactic(auto)]
 
-ghost use Rattle.std.specs.Prelude.{◌≡◌, ℕ, ◌^◌, ◌<◌, min, length, get_or};
+ghost use Rattle.std.specs.Prelude.{◌≡◌};
 ghost use Rattle.lists.specs.Lists.{tabulate};
 ghost use Rattle.bisimulation.specs.Maker.{distance};
 ghost use Rattle.sides.specs.Side.{system_in};
@@ -12,14 +12,14 @@ ghost use Rattle.match_sets.specs.Sets.{AfterRounds};
 ghost use Rattle.match_sets.specs.Predecessors.{with_predecessor, Predecessors, ComeFrom, enters_by, EnterBy};
 ghost use Rattle.match_sets.specs.Growing.{Newcomers, Marked};
 
-use lists::put_front;
-use sides::{Side, from, key, related, states, step_count, to};
+use sides::{Side, View};
 use tables::Head;
 use words::Row;
 
 // ---- predecessors
 
 // Adds x to the word of y; a state of 64 or more has no word.
+#[tactic(auto, unfolding(crate::specs::Predecessors::with_predecessor))]
 fn add_predecessor(predecessors: &mut [u64; Head::MAX_STATES], y: usize, x: usize)
     ensures { predecessors.new ≡ with_predecessor predecessors.old y x }
 {
@@ -34,56 +34,43 @@ fn add_predecessor(predecessors: &mut [u64; Head::MAX_STATES], y: usize, x: usiz
 fn silent_predecessors(theirs: &Side) -> [u64; Head::MAX_STATES]
     ensures { Predecessors (system_in theirs.now) (system_in theirs.now).steps result }
 {
-    let m = step_count(theirs);
     let mut predecessors = [0u64; Head::MAX_STATES];
-    let mut e: usize = 0;
-    while e < m {
-        if key(theirs, e) == 0 {
-            add_predecessor(&mut predecessors, to(theirs, e), from(theirs, e));
+    for e in 0..theirs.step_count() {
+        if theirs.key(e) == 0 {
+            add_predecessor(&mut predecessors, theirs.to(e), theirs.from(e));
         }
-        e += 1;
     }
     predecessors
 }
 
 // The states from which silent steps enter a state of the set, by the predecessors of each state.
 fn predecessors_of(predecessors: &[u64; Head::MAX_STATES], set: Row) -> Row
-    requires { (y : ℕ) → get_or predecessors.now y 0 < 2 ^ 64 }
     ensures { ComeFrom predecessors.now set.0 64 result.0 }
 {
     let mut found = Row::empty();
-    let mut rest = set;
-    let mut y = rest.first();
-    while y < Head::MAX_STATES {
+    for y in set {
         found = found.union(Row(predecessors[y]));
-        rest = rest.remove(y);
-        y = rest.first();
     }
     found
 }
 
 // Whether their step e has this key and enters a state of the target.
+#[tactic(auto, unfolding(crate::specs::Predecessors::enters_by))]
 fn enters(theirs: &Side, by: usize, target: Row, e: usize) -> bool
     ensures { result ≡ enters_by theirs.now by target.0 e }
 {
-    if key(theirs, e) == by {
-        return target.has(to(theirs, e));
-    }
-    false
+    theirs.key(e) == by && target.has(theirs.to(e))
 }
 
 // The states from which steps with this key enter a state of the target, by one pass over the steps.
 fn keyed_predecessors(theirs: &Side, by: usize, target: Row) -> Row
     ensures { EnterBy theirs.now by target.0 (system_in theirs.now).steps result.0 }
 {
-    let m = step_count(theirs);
     let mut found = Row::empty();
-    let mut e: usize = 0;
-    while e < m {
+    for e in 0..theirs.step_count() {
         if enters(theirs, by, target, e) {
-            found = found.add(from(theirs, e));
+            found = found.add(theirs.from(e));
         }
-        e += 1;
     }
     found
 }
@@ -102,19 +89,18 @@ fn entering(theirs: &Side, predecessors: &[u64; Head::MAX_STATES], by: usize, ta
 // ---- the set of a step
 
 // The set with which our step j begins: their states related to the one that it leaves, at which it is matched with no step inside.
-fn first_set(ours: &Side, theirs: &Side, predecessors: &[u64; Head::MAX_STATES], j: usize) -> Row
-    requires { Predecessors (system_in theirs.now) (system_in theirs.now).steps predecessors.now }
-    ensures { AfterRounds (view_in ours.now theirs.now) j 0 result.0 }
+fn first_set(view: View, predecessors: &[u64; Head::MAX_STATES], j: usize) -> Row
+    requires { Predecessors (system_in view.theirs.now) (system_in view.theirs.now).steps predecessors.now }
+    ensures { AfterRounds (view_in view.entry.ours.now view.entry.theirs.now) j 0 result.0 }
 {
-    let candidates = related(ours, from(ours, j));
-    let target = related(ours, to(ours, j));
-    let near = entering(theirs, predecessors, key(ours, j), target);
+    let candidates = view.ours.related(view.ours.from(j));
+    let target = view.ours.related(view.ours.to(j));
+    let near = entering(view.theirs, predecessors, view.ours.key(j), target);
     near.intersect(candidates)
 }
 
 // The states that come into the set with a round: related, not in it yet, with a silent step into one that came in last.
 fn newcomers(predecessors: &[u64; Head::MAX_STATES], candidates: Row, set: Row, fresh: Row) -> Row
-    requires { (y : ℕ) → get_or predecessors.now y 0 < 2 ^ 64 }
     ensures { Newcomers predecessors.now candidates.0 set.0 fresh.0 result.0 }
 {
     let near = predecessors_of(predecessors, fresh);
@@ -124,45 +110,32 @@ fn newcomers(predecessors: &[u64; Head::MAX_STATES], candidates: Row, set: Row, 
 
 // Puts a value into the row at each state of the set.
 fn mark(row: &mut [u8; Head::MAX_STATES], set: Row, value: u8)
-    requires { length row.old ≡ 64 }
     ensures { Marked set.0 64 value row.old row.new }
 {
-    let mut rest = set;
-    let mut t = rest.first();
-    while t < Head::MAX_STATES {
+    for t in set {
         row[t] = value;
-        rest = rest.remove(t);
-        t = rest.first();
     }
-}
-
-// A number, and the limit where it is more.
-fn at_most(x: usize, limit: usize) -> usize
-    ensures { result ≡ min x limit }
-{
-    if x < limit { x } else { limit }
 }
 
 // The match distances of our step j at each of their states: the round in which the state comes into the set, and their number of states where it never does.
 // The set is done when it stops growing.
 fn step_distances(
-    ours: &Side,
-    theirs: &Side,
+    view: View,
     predecessors: &[u64; Head::MAX_STATES],
     j: usize,
 ) -> [u8; Head::MAX_STATES]
-    requires { Predecessors (system_in theirs.now) (system_in theirs.now).steps predecessors.now }
-    ensures { result ≡ tabulate 64 (distance (view_in ours.now theirs.now) j) }
+    requires { Predecessors (system_in view.theirs.now) (system_in view.theirs.now).steps predecessors.now }
+    ensures { result ≡ tabulate 64 (distance (view_in view.entry.ours.now view.entry.theirs.now) j) }
 {
-    let n = states(theirs);
-    let candidates = related(ours, from(ours, j));
+    let n = view.theirs.states();
+    let candidates = view.ours.related(view.ours.from(j));
     let mut row = [n as u8; Head::MAX_STATES];
-    let mut set = first_set(ours, theirs, predecessors, j);
+    let mut set = first_set(view, predecessors, j);
     let mut fresh = set;
     let mut k: usize = 0;
     while !fresh.is_empty() {
         // The sides of two tables need fewer rounds than there are states; words that no table gives may need more.
-        mark(&mut row, fresh, at_most(k, n) as u8);
+        mark(&mut row, fresh, k.min(n) as u8);
         fresh = newcomers(predecessors, candidates, set, fresh);
         set = set.union(fresh);
         k += 1;
@@ -171,20 +144,15 @@ fn step_distances(
 }
 
 // The match distances of all our steps, row by row: that of step j at t stands at 64 j + t. Past the last step the rows stay zeros.
-pub fn distances(ours: &Side, theirs: &Side) -> [u8; Head::MAX_STEPS * Head::MAX_STATES]
-    ensures { result ≡ distance_table (view_in ours.now theirs.now) }
+pub fn distances(view: View) -> [u8; Head::MAX_STEPS * Head::MAX_STATES]
+    ensures { result ≡ distance_table (view_in view.entry.ours.now view.entry.theirs.now) }
 {
-    let count = step_count(ours);
-    let predecessors = silent_predecessors(theirs);
+    let predecessors = silent_predecessors(view.theirs);
     let mut at = [0u8; Head::MAX_STEPS * Head::MAX_STATES];
-    let mut a: usize = 0;
-    let mut j: usize = 0;
-    while j < count {
-        let e = a + Head::MAX_STATES;
-        let row = step_distances(ours, theirs, &predecessors, j);
-        put_front(&row, &mut at[a..e]);
-        a = e;
-        j += 1;
+    for j in 0..view.ours.step_count() {
+        let a = j * Head::MAX_STATES;
+        let row = step_distances(view, &predecessors, j);
+        at[a..a + Head::MAX_STATES].copy_from_slice(&row);
     }
     at
 }

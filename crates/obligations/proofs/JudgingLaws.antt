@@ -1,5 +1,8 @@
 -- Laws of the judging order: what holds of all checks, that the judge's verdict on a check is decided by its causes, and where no check has a cause that
 -- applies. Assumes nothing.
+use Rattle.outcomes.specs.declared.Outcome.{Outcome}
+use Rattle.outcomes.specs.declared.Outcome.TheVariants.{Met, Failed}
+use Rattle.std.specs.Prelude.{Ok, Err}
 use Prim.Native.Nat.{ℕ, ◌<◌}
 use mathlib.Core.Path.{◌≡◌, refl, sym, subst}
 use mathlib.Core.Logic.{◌↔◌, inl, inr}
@@ -11,15 +14,12 @@ use Rattle.lists.proofs.BoolLaws.{eq→eqb}
 use Rattle.lists.proofs.JoinLaws.{all_append, append-all, all_join, join-all, all-when, when-all, all_map, map-all, all-flat, flat-all}
 use Rattle.answers.specs.Causes.{NoCause, Numbered, allows}
 use Rattle.answers.proofs.CauseLaws.{allowed}
-use Rattle.answers.specs.Verdicts.{go_on, refused_with}
 use Rattle.answers.proofs.DecideLaws.{Decides, decides-stable, eqb-decides, not-decides, or-decides}
 use Rattle.answers.proofs.VerdictLaws.{Decided, decided-none, decided-as, decided-unless}
 use Rattle.bisimulation.specs.Systems.{System, View, Ranks, WellFormed, flip, swap, steps_from, LabelsEqual}
 use Rattle.bisimulation.specs.Clauses.{Meets, EveryObligation}
 use Rattle.bisimulation.specs.Judge.{is2a, is2b, is2c}
 use Rattle.outcomes.specs.declared.Failure.TheVariants as failure
-use Rattle.outcomes.specs.declared.Outcome.{Outcome}
-use Rattle.outcomes.specs.declared.Outcome.TheVariants.{Met, Failed}
 use Rattle.outcomes.specs.Obligation.{obligation_at}
 use Rattle.obligations.specs.Outcomes.{HasOutcome}
 use Rattle.obligations.specs.CheckAnswers.{labels_answer}
@@ -104,7 +104,7 @@ module _ (v : View) (r : Ranks) where
   pub check-decided : (c : Check) → Decided (Found v r c) (check_causes v r c) (check_verdict v r c)
   unfolding check_verdict
   check-decided (labels_of s t) =
-      decided-unless (λ x. x) (eqb (v.own.label s) (v.other.label t)) (refused_with (labels_answer s t)) (go_on nothing)
+      decided-unless (λ x. x) (eqb (v.own.label s) (v.other.label t)) (Err (labels_answer s t)) (Ok nothing)
       (not-decides (eqb-decides (v.own.label s) (v.other.label t))) refl (decided-none refl)
   check-decided (left_step s t j) = decided-as (step_verdict 0 s t j (obligation_at v r j t)) go (step-decided v r j t 0 s t)
     where

@@ -1,5 +1,6 @@
 -- Laws of what is read off two sides: the checks in judging order and one obligation are those of the view that the sides hold; how many steps
 -- there can be from a state, and where the runs of ranks lie. Assumes nothing.
+use Rattle.outcomes.specs.declared.Outcome.TheVariants.{Met}
 use Prim.Native.Nat.{ℕ, zero, suc, ◌+◌, ◌*◌, ◌^◌, ◌≤◌, ◌<◌}
 use mathlib.Core.Path.{◌≡◌, refl, sym, ap, ap₂, fun_ext, ◌∙◌}
 use mathlib.Core.Bool.{Bool, true, false, cond, ◌&&◌, and_assoc, and-false}
@@ -11,7 +12,7 @@ use lib.Dec.{T, ltb, eqb}
 use lib.ListN.{length}
 use lib.Seq.{get_or-drop}
 use borrow.Author.Tests.{lt-ltb, le-ltb}
-use Rattle.lists.specs.Below.{any_below}
+use Rattle.lists.specs.Below.{any_below, some_below}
 use Rattle.lists.specs.Numbers.{byte_at}
 use Rattle.lists.proofs.BelowLaws.{any-cong}
 use Rattle.words.specs.Bits.{has_bit}
@@ -19,24 +20,25 @@ use Rattle.bisimulation.specs.Systems.{View, Ranks, WellFormed, flip, swap}
 use Rattle.certificates.specs.declared.Sizes.{Sizes}
 use Rattle.certificates.specs.Layout.{al_at, ar_at, cl_at, cr_at}
 use Rattle.certificates.proofs.LayoutLaws.{products-fit}
+use Rattle.sides.specs.declared.Side.{Side}
 use Rattle.sides.specs.Side.{system_in, key_at, related_to, silent_from, linked_from, next_step, steps_in, entered_by}
 use Rattle.sides.specs.Views.{view_in}
 use Rattle.sides.specs.Built.{Linked}
 use Rattle.sides.proofs.GroupLaws.{silent-start}
 use Rattle.sides.proofs.LinkLaws.{eqb_swap}
 use Rattle.outcomes.specs.declared.Clause.TheVariants.{Step, Stutter}
-use Rattle.outcomes.specs.declared.Outcome.TheVariants.{Met}
+use Rattle.std.specs.Prelude.{Some, None}
 use Rattle.obligations.specs.declared.Run.{Run}
 use Rattle.outcomes.specs.Obligation.{without_stutter, without_step, obligation_of, obligation_at}
-use Rattle.outcomes.proofs.ObligationLaws.{Faces, Ranked}
+use Rattle.lists.proofs.SomeLaws.{some-e, none-e}
+use Rattle.outcomes.proofs.ObligationLaws.{Faces, Ranked, obligation-is}
 use Rattle.obligations.specs.Judging.{checks_by, checks}
 use Rattle.obligations.specs.OnSides.{checks_in, stutter_at, match_row, facing_in, serving_in, outcome_by_ranks, obligation_in}
-use Rattle.outcomes.proofs.ObligationLaws.{obligation-is}
 
 -- ---- the checks
 
 -- at most k steps are met along k links, and 256 from a state
-linked-few : (side : List ℕ) (k j : ℕ) → length (linked_from side k j) ≤ k
+linked-few : (side : Side) (k j : ℕ) → length (linked_from side k j) ≤ k
 unfolding linked_from
 linked-few side zero j = omega arith
 linked-few side (suc k) j = when (ltb j 256) _ (linked-few side k (next_step side j))
@@ -45,12 +47,12 @@ linked-few side (suc k) j = when (ltb j 256) _ (linked-few side k (next_step sid
     when true l h = omega arith
     when false l h = omega arith
 
-pub steps-few : (side : List ℕ) (s : ℕ) → length (steps_in side s) ≤ 256
+pub steps-few : (side : Side) (s : ℕ) → length (steps_in side s) ≤ 256
 unfolding steps_in
 steps-few side s = linked-few side 256 _
 
 -- in sides of tables that are read they are the theory's
-pub checks-in : {ours theirs : List ℕ} → Linked ours → Linked theirs → checks_in ours theirs ≡ checks (view_in ours theirs)
+pub checks-in : {ours theirs : Side} → Linked ours → Linked theirs → checks_in ours theirs ≡ checks (view_in ours theirs)
 unfolding checks_in checks
 checks-in {ours} {theirs} a b =
     ap₂ (checks_by (system_in ours).states (system_in theirs).states (view_in ours theirs).related) (fun_ext a.steps-are) (fun_ext b.steps-are)
@@ -92,17 +94,17 @@ module _ (certificate : List ℕ) (run : Run) (r : Ranks) (at : RanksAt certific
 
 -- ---- one obligation
 
-module _ (ours theirs certificate : List ℕ) (run : Run) (j t : ℕ) where
+module _ (ours theirs : Side) (certificate : List ℕ) (run : Run) (j t : ℕ) where
   -- 2a holds
-  pub by-step : {state : ℕ} → state ≡ serving_in ours theirs j t → state < 64 → Met Step state ≡ obligation_in ours theirs certificate run j t
+  pub by-step : {state : ℕ} → some_below 64 (serving_in ours theirs j t) ≡ Some state → Met Step state ≡ obligation_in ours theirs certificate run j t
   unfolding obligation_in obligation_of
-  by-step e h = let k = rw e at h in rw e (sym (rw (lt-ltb (serving_in ours theirs j t) 64 k)))
+  by-step e = let s = some-e e in sym (rw (lt-ltb (serving_in ours theirs j t) 64 s.0, s.1))
 
   -- it does not
-  pub by-ranks : {state : ℕ} → state ≡ serving_in ours theirs j t → 64 ≤ state
+  pub by-ranks : some_below 64 (serving_in ours theirs j t) ≡ None
       → outcome_by_ranks ours theirs certificate run j t ≡ obligation_in ours theirs certificate run j t
   unfolding obligation_in outcome_by_ranks obligation_of
-  by-ranks e h = let k = rw e at h in sym (rw (le-ltb (serving_in ours theirs j t) 64 k))
+  by-ranks e = sym (rw (le-ltb (serving_in ours theirs j t) 64 (none-e e)))
 
   -- where 2a does not hold: 2b is looked at first, for a step that stays, and then 2c
   module _ {s u : ℕ} {stays : Bool} (es : s ≡ (system_in ours).from j) (eu : u ≡ (system_in ours).to j)
@@ -182,7 +184,7 @@ module _ (ours theirs certificate : List ℕ) (run : Run) (j t : ℕ) where
 -- ---- both sides
 
 -- Two sides and a certificate hold what is judged: the sides are linked and seen from either side the same, and the ranks stand at the two runs.
-pub record Holding (ours theirs certificate : List ℕ) (left right : Run) (r : Ranks) : Type 0 where
+pub record Holding (ours theirs : Side) (certificate : List ℕ) (left right : Run) (r : Ranks) : Type 0 where
   pub linked : Linked ours
   pub linked' : Linked theirs
   pub formed : WellFormed (view_in ours theirs)
@@ -190,7 +192,7 @@ pub record Holding (ours theirs certificate : List ℕ) (left right : Run) (r : 
   pub ranks-at : RanksAt certificate left r
   pub ranks-at' : RanksAt certificate right (swap r)
 
-module _ (ours theirs certificate : List ℕ) (left right : Run) (r : Ranks) (holding : Holding ours theirs certificate left right r) (s t : ℕ)
+module _ (ours theirs : Side) (certificate : List ℕ) (left right : Run) (r : Ranks) (holding : Holding ours theirs certificate left right r) (s t : ℕ)
     (h : T ((view_in ours theirs).related s t)) (j : ℕ) where
   pub left-outcome : j < (system_in ours).steps → obligation_in ours theirs certificate left j t ≡ obligation_at (view_in ours theirs) r j t
   left-outcome l =

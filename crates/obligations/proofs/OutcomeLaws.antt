@@ -1,4 +1,6 @@
 -- The outcome of an obligation is what the documents' words say, and these leave one outcome only. Assumes nothing.
+use Rattle.outcomes.specs.declared.Outcome.{Outcome}
+use Rattle.outcomes.specs.declared.Outcome.TheVariants.{Met, Failed}
 use Prim.Native.Nat.{ℕ}
 use mathlib.Core.Path.{◌≡◌, refl, subst}
 use mathlib.Core.Logic.{inl, inr, ⊎_elim}
@@ -18,8 +20,6 @@ use Rattle.bisimulation.proofs.ClauseLaws.{Enters, smallest-entered, is2a-e, is2
 use Rattle.outcomes.specs.declared.Clause.{Clause}
 use Rattle.outcomes.specs.declared.Clause.TheVariants.{Step, Stutter, Match}
 use Rattle.outcomes.specs.declared.Failure.TheVariants as failure
-use Rattle.outcomes.specs.declared.Outcome.{Outcome}
-use Rattle.outcomes.specs.declared.Outcome.TheVariants.{Met, Failed}
 use Rattle.outcomes.specs.Obligation.{outcome_after2a, is_apart, obligation_at}
 use Rattle.obligations.specs.Outcomes.{Apart, MetFirstBy, ServesBy, HasOutcome}
 

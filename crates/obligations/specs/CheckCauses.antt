@@ -1,4 +1,5 @@
 -- The causes 17 to 19, each worded as its row of document 01's table, and not through the judge's tests; and by which clause a check is met.
+use Rattle.outcomes.specs.declared.Outcome.{Outcome}
 use Rattle.std.specs.Prelude.{ℕ, ◌≡◌, List, [], ◌∷◌}
 use Rattle.bisimulation.specs.Systems.{View, Ranks, flip, swap}
 use Rattle.bisimulation.specs.Clauses.{Meets}
@@ -7,7 +8,6 @@ use Rattle.obligations.specs.CheckAnswers.{labels_answer, step_answer}
 use Rattle.obligations.specs.Outcomes.{Apart, MetFirstBy, HasOutcome}
 use Rattle.obligations.specs.Judging.{Check, labels_of, left_step, right_step}
 use Rattle.outcomes.specs.declared.Clause.{Clause}
-use Rattle.outcomes.specs.declared.Outcome.{Outcome}
 
 -- 17: the labels differ.
 abbrev pub label_causes : View → ℕ → ℕ → List Cause

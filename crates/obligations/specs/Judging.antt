@@ -1,15 +1,15 @@
 -- The judging order after the starts (document 01, Duties and clauses): pairs, s rising, then t rising; in a pair the marks, then left steps from s in
 -- table order, then right steps from t. And what becomes of each check, for the judge.
-use Rattle.std.specs.Prelude.{ℕ, ◌+◌, Bool, cond, List, [], ◌∷◌, ◌++◌, map, eqb}
+use Rattle.outcomes.specs.declared.Outcome.{Outcome}
+use Rattle.outcomes.specs.declared.Outcome.TheVariants.{Met, Failed}
+use Rattle.std.specs.Prelude.{ℕ, ◌+◌, Bool, cond, List, [], ◌∷◌, ◌++◌, map, eqb, Ok, Err}
 use Rattle.lists.specs.Below.{sum_below, count_below}
 use Rattle.lists.specs.Lists.{join_below}
 use Rattle.bisimulation.specs.Systems.{System, View, Ranks, flip, swap, steps_from}
-use Rattle.answers.specs.Verdicts.{Verdict, go_on, refused_with}
+use Rattle.answers.specs.Verdicts.{Verdict}
 use Rattle.outcomes.specs.Obligation.{failure_number, obligation_at}
 use Rattle.obligations.specs.CheckAnswers.{labels_answer, step_answer}
 use Rattle.outcomes.specs.declared.Clause.{Clause}
-use Rattle.outcomes.specs.declared.Outcome.{Outcome}
-use Rattle.outcomes.specs.declared.Outcome.TheVariants.{Met, Failed}
 
 -- One thing that is looked at: the labels of the pair s, t; the obligation of left step j; the obligation of right step j.
 pub data Check : Type 0 where
@@ -36,12 +36,12 @@ pub data Finding : Type 0 where
 
 -- The verdict on an obligation.
 abbrev pub step_verdict : ℕ → ℕ → ℕ → ℕ → Outcome → Verdict Finding
-step_verdict side s t j (Met clause x) = go_on (met_by clause x)
-step_verdict side s t j (Failed failure) = refused_with (step_answer (failure_number failure) side s t j)
+step_verdict side s t j (Met clause x) = Ok (met_by clause x)
+step_verdict side s t j (Failed failure) = Err (step_answer (failure_number failure) side s t j)
 
 -- The judge's verdict on a check.
 unfoldable pub check_verdict : View → Ranks → Check → Verdict Finding
-check_verdict v r (labels_of s t) = cond (eqb (v.own.label s) (v.other.label t)) (go_on nothing) (refused_with (labels_answer s t))
+check_verdict v r (labels_of s t) = cond (eqb (v.own.label s) (v.other.label t)) (Ok nothing) (Err (labels_answer s t))
 check_verdict v r (left_step s t j) = step_verdict 0 s t j (obligation_at v r j t)
 check_verdict v r (right_step s t j) = step_verdict 1 s t j (obligation_at (flip v) (swap r) j s)
 

@@ -1,18 +1,21 @@
 -- What is read off two sides and a certificate: the checks in judging order, and one obligation with its ranks.
+use Rattle.outcomes.specs.declared.Outcome.{Outcome}
 use Rattle.std.specs.Prelude.{ℕ, ◌+◌, ◌*◌, cond, ◌&&◌, List, [], ltb, drop}
 use Rattle.lists.specs.Numbers.{byte_at}
 use Rattle.tables.specs.Table.{max_states, max_steps}
+use Rattle.answers.specs.declared.Which.{Which}
+use Rattle.answers.specs.declared.Which.TheVariants.{Left, Right}
 use Rattle.certificates.specs.Layout.{al_at, ar_at, cl_at, cr_at}
 use Rattle.certificates.specs.declared.Sizes.{Sizes}
+use Rattle.sides.specs.declared.Side.{Side}
 use Rattle.sides.specs.Side.{system_in, key_at, related_to, silent_from, steps_in, entered_by}
 use Rattle.sides.specs.Views.{view_in}
 use Rattle.outcomes.specs.Obligation.{Facing, serving_state, without_step, obligation_of}
 use Rattle.obligations.specs.Judging.{Check, checks_by}
-use Rattle.outcomes.specs.declared.Outcome.{Outcome}
 use Rattle.obligations.specs.declared.Run.{Run}
 
 -- The checks of the related pairs, the steps in the order in which the links lead along them.
-unfoldable pub checks_in : (ours theirs : List ℕ) → List Check
+unfoldable pub checks_in : (ours theirs : Side) → List Check
 checks_in ours theirs = checks_by (system_in ours).states (system_in theirs).states (view_in ours theirs).related (steps_in ours) (steps_in theirs)
 
 -- ---- the ranks
@@ -24,6 +27,10 @@ left_run z = record { stutter = al_at z; matches = cl_at z; states = z.n2 }
 abbrev pub right_run : Sizes → Run
 right_run z = record { stutter = ar_at z; matches = cr_at z; states = z.n1 }
 
+abbrev pub run_of : Which → Sizes → Run
+run_of Left z = left_run z
+run_of Right z = right_run z
+
 -- The A rank of s at t; a state of 64 or more has rank 0.
 unfoldable pub stutter_at : List ℕ → Run → ℕ → ℕ → ℕ
 stutter_at certificate run s t = cond (ltb s max_states && ltb t max_states) (byte_at certificate (run.stutter + (s * run.states + t))) 0
@@ -34,7 +41,7 @@ match_row certificate run j = cond (ltb j max_steps) (drop (run.matches + j * ru
 
 -- ---- one obligation
 
-module _ (ours theirs : List ℕ) where
+module _ (ours theirs : Side) where
   -- What the obligation of our step j at t looks at.
   abbrev pub facing_in : ℕ → ℕ → Facing
   facing_in j t =

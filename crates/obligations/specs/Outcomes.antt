@@ -1,5 +1,7 @@
 -- One obligation in the words of documents 01 and 02: which states serve it, by which clause it is met, and what its outcome is. It is that of the own step
 -- j, from s to u, at a state t of the other side.
+use Rattle.outcomes.specs.declared.Outcome.{Outcome}
+use Rattle.outcomes.specs.declared.Outcome.TheVariants.{Met, Failed}
 use Rattle.std.specs.Prelude.{ℕ, ◌<◌, ◌≡◌, T}
 use Rattle.lists.specs.Below.{Smallest}
 use Rattle.bisimulation.specs.Systems.{View, Ranks, Stays}
@@ -7,8 +9,6 @@ use Rattle.bisimulation.specs.Clauses.{Meets2a, Meets2b, Meets2c, Meets}
 use Rattle.outcomes.specs.declared.Clause.{Clause}
 use Rattle.outcomes.specs.declared.Clause.TheVariants.{Step, Stutter, Match}
 use Rattle.outcomes.specs.declared.Failure.TheVariants as failure
-use Rattle.outcomes.specs.declared.Outcome.{Outcome}
-use Rattle.outcomes.specs.declared.Outcome.TheVariants.{Met, Failed}
 
 -- u, t are unrelated or the step's key is not 0, and no silent step from t goes to a state related to s.
 abbrev pub Apart : View → ℕ → ℕ → Type 0

@@ -2,17 +2,18 @@
 #![tactic(auto)]
 
 ghost use Rattle.std.specs.Prelude.{◌≡◌, ◌&&◌};
+ghost use Rattle.lists.specs.Below.{some_below};
 ghost use Rattle.words.specs.Bits.{has_bit};
 ghost use Rattle.sides.specs.Side.{system_in, related_to};
 ghost use Rattle.obligations.specs.CheckAnswers.{left_state, right_state, place_answer};
-ghost use Rattle.obligations.specs.OnSides.{left_run, right_run, stutter_at, match_row};
+ghost use Rattle.obligations.specs.OnSides.{left_run, right_run, run_of, stutter_at, match_row};
 ghost use Rattle.obligations.specs.OnSides.{serving_in, outcome_by_ranks, obligation_in};
 
-use answers::Answer;
+use answers::{Answer, Which};
 use certificates::Sizes;
 use lists::{byte, part_of};
 use outcomes::{Clause, Outcome, without_stutter};
-use sides::{Side, entered_by, from, key, related, silent, to};
+use sides::{Side, View};
 use tables::Head;
 
 // Where the A ranks and the C ranks of a side begin in a certificate, and how many states the other side has. The widths are such that no sum of them
@@ -24,7 +25,22 @@ pub struct Run {
     pub states: u8,
 }
 
-// A related pair, seen from a side: 0 left, 1 right.
+// The ranks of a side: the certificate that they stand in, and where.
+#[derive(Clone, Copy)]
+pub struct Ranks<'a> {
+    pub certificate: &'a [u8],
+    pub run: Run,
+}
+
+// The ranks of two sides, which stand in one certificate.
+#[derive(Clone, Copy)]
+pub struct BothRanks<'a> {
+    pub certificate: &'a [u8],
+    pub left: Run,
+    pub right: Run,
+}
+
+// A related pair, seen from a side: 0 left, 1 right. The side is a number, since the methods answer for every number.
 #[derive(Clone, Copy)]
 pub struct Place {
     pub side: usize,
@@ -63,124 +79,130 @@ impl Place {
 }
 
 impl Run {
-    // The left side's runs.
-    pub fn left(sizes: Sizes) -> Run
-        ensures { result ≡ left_run sizes }
+    // The runs of a side.
+    pub fn of(sizes: Sizes, which: Which) -> Run
+        ensures { result ≡ run_of which sizes }
     {
-        // Read as a number, which tells that the sizes are small, and so that both places fit.
-        let states = sizes.n2 as usize;
+        // Read as numbers, which tells that the sizes are small, and so that both places fit.
+        let n1 = sizes.n1 as usize;
+        let n2 = sizes.n2 as usize;
         let runs = sizes.runs();
+        let (stutter, matches, states) = match which {
+            Which::Left => (runs.al, runs.cl, n2),
+            Which::Right => (runs.ar, runs.cr, n1),
+        };
         Run {
-            stutter: runs.al as u32,
-            matches: runs.cl as u32,
-            states: states as u8,
-        }
-    }
-
-    // The right side's runs.
-    pub fn right(sizes: Sizes) -> Run
-        ensures { result ≡ right_run sizes }
-    {
-        // Read as a number, which tells that the sizes are small, and so that both places fit.
-        let states = sizes.n1 as usize;
-        let runs = sizes.runs();
-        Run {
-            stutter: runs.ar as u32,
-            matches: runs.cr as u32,
+            stutter: stutter as u32,
+            matches: matches as u32,
             states: states as u8,
         }
     }
 }
 
-// The A rank of s at t; a state of 64 or more has rank 0.
-fn stutter_at(certificate: &[u8], run: Run, s: usize, t: usize) -> usize
-    ensures { result ≡ stutter_at certificate.now run s t }
-{
-    if Head::MAX_STATES <= s {
-        return 0;
+impl<'a> Ranks<'a> {
+    // The A rank of s at t; a state of 64 or more has rank 0.
+    fn stutter_at(self, s: usize, t: usize) -> usize
+        ensures { result ≡ stutter_at self.entry.certificate.now self.entry.run s t }
+    {
+        if Head::MAX_STATES <= s || Head::MAX_STATES <= t {
+            return 0;
+        }
+        let at = self.run.stutter as usize;
+        let n = self.run.states as usize;
+        byte(self.certificate, at + (s * n + t))
     }
-    if Head::MAX_STATES <= t {
-        return 0;
+
+    // The certificate from the C ranks of step j on; a step of 256 or more has none.
+    fn match_row(self, j: usize) -> &'a [u8]
+        ensures { result.now ≡ match_row self.entry.certificate.now self.entry.run j }
+    {
+        let end = self.certificate.len();
+        if Head::MAX_STEPS <= j {
+            return part_of(self.certificate, end, end);
+        }
+        let at = self.run.matches as usize;
+        let n = self.run.states as usize;
+        part_of(self.certificate, at + j * n, end)
     }
-    let at = run.stutter as usize;
-    let n = run.states as usize;
-    byte(certificate, at + (s * n + t))
 }
 
-// The certificate from the C ranks of step j on; a step of 256 or more has none.
-fn match_row(certificate: &[u8], run: Run, j: usize) -> &[u8]
-    ensures { result.now ≡ match_row certificate.now run j }
-{
-    let end = certificate.len();
-    if Head::MAX_STEPS <= j {
-        return part_of(certificate, end, end);
+impl<'a> BothRanks<'a> {
+    // Where they stand in a certificate of these sizes.
+    pub fn of(certificate: &'a [u8], sizes: Sizes) -> BothRanks<'a>
+        ensures certificate { result.certificate.now ≡ certificate.now }
+        ensures left { result.left ≡ left_run sizes }
+        ensures right { result.right ≡ right_run sizes }
+    {
+        BothRanks {
+            certificate,
+            left: Run::of(sizes, Which::Left),
+            right: Run::of(sizes, Which::Right),
+        }
     }
-    let at = run.matches as usize;
-    let n = run.states as usize;
-    part_of(certificate, at + j * n, end)
+
+    // The left side's.
+    pub fn of_left(self) -> Ranks<'a>
+        ensures certificate { result.certificate.now ≡ self.entry.certificate.now }
+        ensures run { result.run ≡ self.entry.left }
+    {
+        Ranks {
+            certificate: self.certificate,
+            run: self.left,
+        }
+    }
+
+    // The right side's.
+    pub fn of_right(self) -> Ranks<'a>
+        ensures certificate { result.certificate.now ≡ self.entry.certificate.now }
+        ensures run { result.run ≡ self.entry.right }
+    {
+        Ranks {
+            certificate: self.certificate,
+            run: self.right,
+        }
+    }
 }
 
-// The smallest state that meets the obligation of our step j at t by 2a, and 64 where there is none.
-pub fn serving_state(ours: &Side, theirs: &Side, j: usize, t: usize) -> usize
-    ensures { result ≡ serving_in ours.now theirs.now j t }
+// The smallest state that meets the obligation of our step j at t by 2a, if there is one.
+pub fn serving_state(view: View, j: usize, t: usize) -> Option<usize>
+    ensures { result ≡ some_below 64 (serving_in view.entry.ours.now view.entry.theirs.now j t) }
 {
-    let target = related(ours, to(ours, j));
-    let serving = entered_by(theirs, t, key(ours, j));
+    let target = view.ours.related(view.ours.to(j));
+    let serving = view.theirs.entered_by(t, view.ours.key(j));
     let met = serving.intersect(target);
-    met.first()
+    met.smallest()
 }
 
 // Whether our step j, which enters u, stays at t: it is silent, and u and t are related.
 fn stays(ours: &Side, j: usize, u: usize, t: usize) -> bool
     ensures { result ≡ ((system_in ours.now).silent j && has_bit (related_to ours.now u) t) }
 {
-    if key(ours, j) == 0 {
-        let target = related(ours, u);
-        return target.has(t);
-    }
-    false
+    ours.key(j) == 0 && ours.related(u).has(t)
 }
 
 // The outcome of the obligation of our step j at t where 2a does not hold, with the ranks that stand in the certificate.
-pub fn outcome_by_ranks(
-    ours: &Side,
-    theirs: &Side,
-    certificate: &[u8],
-    run: Run,
-    j: usize,
-    t: usize,
-) -> Outcome
-    ensures { result ≡ outcome_by_ranks ours.now theirs.now certificate.now run j t }
+pub fn outcome_by_ranks(view: View, ranks: Ranks, j: usize, t: usize) -> Outcome
+    ensures { result
+        ≡ outcome_by_ranks view.entry.ours.now view.entry.theirs.now ranks.entry.certificate.now ranks.entry.run j t }
 {
-    let s = from(ours, j);
-    let u = to(ours, j);
-    let staying = stays(ours, j, u, t);
-    if staying {
-        let before = stutter_at(certificate, run, s, t);
-        let after = stutter_at(certificate, run, u, t);
-        if after < before {
-            return Outcome::Met(Clause::Stutter, t);
-        }
+    let s = view.ours.from(j);
+    let u = view.ours.to(j);
+    let staying = stays(view.ours, j, u, t);
+    if staying && ranks.stutter_at(u, t) < ranks.stutter_at(s, t) {
+        return Outcome::Met(Clause::Stutter, t);
     }
-    let quiet = silent(theirs, t);
-    let ahead = quiet.intersect(related(ours, s));
-    without_stutter(staying, ahead, match_row(certificate, run, j), t)
+    let quiet = view.theirs.silent(t);
+    let ahead = quiet.intersect(view.ours.related(s));
+    without_stutter(staying, ahead, ranks.match_row(j), t)
 }
 
 // The outcome of the obligation of our step j at t. Most are met by 2a, which looks at no rank.
-pub fn obligation_at(
-    ours: &Side,
-    theirs: &Side,
-    certificate: &[u8],
-    run: Run,
-    j: usize,
-    t: usize,
-) -> Outcome
-    ensures { result ≡ obligation_in ours.now theirs.now certificate.now run j t }
+pub fn obligation_at(view: View, ranks: Ranks, j: usize, t: usize) -> Outcome
+    ensures { result
+        ≡ obligation_in view.entry.ours.now view.entry.theirs.now ranks.entry.certificate.now ranks.entry.run j t }
 {
-    let state = serving_state(ours, theirs, j, t);
-    if state < Head::MAX_STATES {
+    if let Some(state) = serving_state(view, j, t) {
         return Outcome::Met(Clause::Step, state);
     }
-    outcome_by_ranks(ours, theirs, certificate, run, j, t)
+    outcome_by_ranks(view, ranks, j, t)
 }

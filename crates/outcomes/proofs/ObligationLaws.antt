@@ -1,4 +1,5 @@
 -- Laws of one obligation on words: the walk that finds the smallest falling state, and that the words give the theory's outcome. Assumes nothing.
+use Rattle.outcomes.specs.declared.Outcome.TheVariants.{Met}
 use Prim.Native.Nat.{ℕ, ◌^◌, ◌≤◌, ◌<◌}
 use mathlib.Core.Path.{◌≡◌, refl, sym, ap, ap₂, ◌∙◌, subst}
 use mathlib.Core.Bool.{Bool, true, false, cond, not, ◌&&◌, and-false}
@@ -7,15 +8,14 @@ use native.Mathlib.Omega.{arith}
 use native.Mathlib.Decide.{ℕ_discrete}
 use lib.Bits.{bit_and}
 use lib.Dec.{T, ltb, eqb, lt→ltb, ltb→lt, eqb→eq}
-use borrow.Author.Tests.{le-ltb, ne_eqb}
+use borrow.Author.Tests.{le-ltb, ltb-false, ne_eqb}
 use Rattle.lists.specs.Below.{any_below, first_below}
 use Rattle.lists.specs.Numbers.{byte_at}
-use Rattle.lists.proofs.BoolLaws.{and_l, and_r, and_i, eq→eqb, same-T}
+use Rattle.lists.proofs.BoolLaws.{and_l, and_r, and_i, eq→eqb, same-T, not-T-false}
 use Rattle.lists.proofs.BelowLaws as below
-use Rattle.words.specs.Bits.{has_bit, first_bit, remove_bit, count_bits}
+use Rattle.words.specs.Bits.{has_bit, first_bit, remove_bit}
 use Rattle.words.proofs.BitLaws as bits
 use Rattle.outcomes.specs.declared.Clause.TheVariants.{Step, Match}
-use Rattle.outcomes.specs.declared.Outcome.TheVariants.{Met}
 use Rattle.bisimulation.specs.Systems.{System, View, Ranks, stays}
 use Rattle.bisimulation.specs.Judge.{meets2a, meets2c, is2a, is2b, is2c}
 use Rattle.bisimulation.specs.Matcher.{smallest_entered}
@@ -75,9 +75,23 @@ module _ (ranks : List ℕ) (t : ℕ) where
         none : (b : Bool) {d : Bool} → d ≡ false → (b && d) ≡ false
         none b z = ap (λ (d : Bool). b && d) z ∙ and-false b
 
--- the walk ends
-pub walk-shorter : (word : ℕ) → word < 2 ^ 64 → first_bit word < 64 → count_bits (remove_bit word (first_bit word)) < count_bits word
-walk-shorter word w h = omega (arith, bits.count-remove word (first_bit word) w (bits.first-has word h))
+module _ (word : ℕ) (w : word < 2 ^ 64) where
+  none-there : 64 ≤ first_bit word → word ≡ 0
+  none-there h =
+      bits.words-equal word 0 w (omega arith) λ x l.
+      not-T-false (has_bit word x) (bits.first-none word (omega (arith, bits.first-bound word)) x w) ∙ sym (bits.has-empty x)
+
+  first-small : (word ≡ 0 → ⊥) → (b : Bool) → ltb (first_bit word) 64 ≡ b → b ≡ true
+  first-small n true e = refl
+  first-small n false e = absurd (n (none-there (ltb-false (first_bit word) 64 e)))
+
+  -- a word has a state where it is not 0
+  pub some-state : ltb (first_bit word) 64 ≡ not (eqb word 0)
+  unfolding first_bit
+  some-state = elim (ℕ_discrete word 0) [
+    | yes e ↦ rw (e, below.first-none 64 (has_bit 0) (λ x l b. subst T (bits.has-empty x) b)) refl
+    | no e ↦ rw (ne_eqb word 0 e) (first-small e (ltb (first_bit word) 64) refl)
+  ]
 
 -- ---- the first that holds
 
@@ -85,9 +99,9 @@ walk-shorter word w h = omega (arith, bits.count-remove word (first_bit word) w 
 same_outcome : (a b c d : Bool) (t : ℕ) {x x' y y' : ℕ} → (T a → x ≡ x') → (T c → y ≡ y')
     → cond a (Met Step x) (outcome_after2a b t c y d) ≡ cond a (Met Step x') (outcome_after2a b t c y' d)
 unfolding outcome_after2a
-same_outcome true b c d t e g = ap (Met Step) (e tt)
+same_outcome true b c d t e g = ap (λ (i : ℕ). Met Step i) (e tt)
 same_outcome false true c d t e g = refl
-same_outcome false false true d t e g = ap (Met Match) (g tt)
+same_outcome false false true d t e g = ap (λ (i : ℕ). Met Match i) (g tt)
 same_outcome false false false d t e g = refl
 
 -- ---- the states that steps enter

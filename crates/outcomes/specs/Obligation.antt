@@ -1,4 +1,6 @@
 -- One obligation (document 01, Duties and clauses): its outcome by the theory's tests, and the same on words of states.
+use Rattle.outcomes.specs.declared.Outcome.{Outcome}
+use Rattle.outcomes.specs.declared.Outcome.TheVariants.{Met, Failed}
 use Rattle.std.specs.Prelude.{ℕ, Bool, cond, not, ◌&&◌, List, ltb}
 use Rattle.std.specs.Int.Bits.{bit_and}
 use Rattle.lists.specs.Below.{first_below}
@@ -13,8 +15,6 @@ use Rattle.outcomes.specs.declared.Clause.{Clause}
 use Rattle.outcomes.specs.declared.Clause.TheVariants.{Step, Stutter, Match}
 use Rattle.outcomes.specs.declared.Failure.{Failure}
 use Rattle.outcomes.specs.declared.Failure.TheVariants.{Apart, Rank}
-use Rattle.outcomes.specs.declared.Outcome.{Outcome}
-use Rattle.outcomes.specs.declared.Outcome.TheVariants.{Met, Failed}
 
 -- The clauses are printed as 1, 2 and 3.
 abbrev pub clause_number : Clause → ℕ

@@ -3,14 +3,14 @@
 #![tactic(auto)]
 
 ghost use Rattle.std.specs.Prelude.{◌≡◌};
+ghost use Rattle.lists.specs.Below.{some_below};
 ghost use Rattle.outcomes.specs.Obligation.{first_falling, without_stutter, clause_number, failure_number};
 
 use lists::byte;
-use tables::Head;
 use words::Row;
 
 // The clause that meets an obligation: 2a, 2b or 2c.
-#[derive(Clone, Copy)]
+#[derive(Clone, Copy, PartialEq, Eq)]
 pub enum Clause {
     Step,
     Stutter,
@@ -18,25 +18,25 @@ pub enum Clause {
 }
 
 // Why an obligation fails, document 01's cause: 18 or 19.
-#[derive(Clone, Copy)]
+#[derive(Clone, Copy, PartialEq, Eq)]
 pub enum Failure {
     Apart,
     Rank,
 }
 
 // The outcome of an obligation: the clause that meets it, with the smallest state of the other side that serves, or why it fails.
-#[derive(Clone, Copy)]
+// An enum of its own: the product's forms ask for one whose cases are named so (docs/DECISIONS.md 14).
+#[derive(Clone, Copy, PartialEq, Eq)]
 pub enum Outcome {
     Met(Clause, usize),
     Failed(Failure),
 }
 
-impl Clause {
-    // The clause's number: 1, 2 or 3.
-    pub fn number(self) -> usize
-        ensures { result ≡ clause_number self }
-    {
-        let clause = self;
+// The clause's number: 1, 2 or 3.
+impl From<Clause> for usize {
+    ghost from_gives = { λ clause number. number ≡ clause_number clause };
+
+    fn from(clause: Clause) -> usize {
         match clause {
             Clause::Step => 1,
             Clause::Stutter => 2,
@@ -45,12 +45,11 @@ impl Clause {
     }
 }
 
-impl Failure {
-    // The failure's number: 18 or 19.
-    pub fn number(self) -> usize
-        ensures { result ≡ failure_number self }
-    {
-        let failure = self;
+// The failure's number: 18 or 19.
+impl From<Failure> for usize {
+    ghost from_gives = { λ failure number. number ≡ failure_number failure };
+
+    fn from(failure: Failure) -> usize {
         match failure {
             Failure::Apart => 18,
             Failure::Rank => 19,
@@ -58,21 +57,17 @@ impl Failure {
     }
 }
 
-// The smallest state of the set at which the rank is below that at t, and 64 where there is none.
-fn falling_state(set: Row, ranks: &[u8], t: usize) -> usize
-    ensures { result ≡ first_falling set.0 ranks.now t }
+// The smallest state of the set at which the rank is below that at t, if there is one.
+fn falling_state(set: Row, ranks: &[u8], t: usize) -> Option<usize>
+    ensures { result ≡ some_below 64 (first_falling set.0 ranks.now t) }
 {
     let here = byte(ranks, t);
-    let mut left = set;
-    let mut v = left.first();
-    while v < Head::MAX_STATES {
+    for v in set {
         if byte(ranks, v) < here {
-            return v;
+            return Some(v);
         }
-        left = left.remove(v);
-        v = left.first();
     }
-    Head::MAX_STATES
+    None
 }
 
 // The outcome where neither 2a nor 2b holds: 2c, else the failure. `stays` says whether the step is silent and u, t are related; `ahead` has the states related
@@ -80,14 +75,10 @@ fn falling_state(set: Row, ranks: &[u8], t: usize) -> usize
 pub fn without_stutter(stays: bool, ahead: Row, ranks: &[u8], t: usize) -> Outcome
     ensures { result ≡ without_stutter stays ahead.0 ranks.now t }
 {
-    let state = falling_state(ahead, ranks, t);
-    if state < Head::MAX_STATES {
+    if let Some(state) = falling_state(ahead, ranks, t) {
         return Outcome::Met(Clause::Match, state);
     }
-    if stays {
-        return Outcome::Failed(Failure::Rank);
-    }
-    if ahead.first() < Head::MAX_STATES {
+    if stays || !ahead.is_empty() {
         return Outcome::Failed(Failure::Rank);
     }
     Outcome::Failed(Failure::Apart)

@@ -1,5 +1,6 @@
 -- Where the judge accepts, what is read off the two sides is what the bytes give: every obligation is met, and the verdict and both outputs are those of
 -- the definition. The key idea: the ranks of the path's side alone tell. Assumes nothing.
+use Rattle.std.specs.Prelude.{Ok, Err}
 use Prim.Native.Nat.{ℕ}
 use mathlib.Core.Path.{◌≡◌, refl, sym, ap, ◌∙◌, subst}
 use mathlib.Core.Logic.{inl}
@@ -14,7 +15,7 @@ use Rattle.bisimulation.specs.Systems.{View, Ranks, WellFormed, flip, swap}
 use Rattle.bisimulation.proofs.ClauseLaws.{flip-formed}
 use Rattle.bisimulation.proofs.PathMatchingLaws.{same-followed}
 use Rattle.answers.specs.Numbers.{six_numbers}
-use Rattle.answers.specs.Verdicts.{Verdict, go_on, refused_with, ◌and_then◌}
+use Rattle.answers.specs.Verdicts.{Verdict, ◌and_then◌}
 use Rattle.answers.specs.declared.Answer.{Answer}
 use Rattle.answers.proofs.DecideLaws.{decides-true}
 use Rattle.answers.proofs.VerdictLaws.{none-on}
@@ -23,6 +24,7 @@ use Rattle.certificates.specs.Layout.{sizes_of}
 use Rattle.certificates.specs.CertificateModel.{AreBytes, ranks_of, certified_view, certified_ranks}
 use Rattle.certified_sides.specs.declared.Sides.{Sides}
 use Rattle.certified_sides.specs.Made.{CertifiedSides}
+use Rattle.sides.specs.declared.Side.{Side}
 use Rattle.sides.specs.Built.{PlainSide}
 use Rattle.sides.specs.Views.{view_in}
 use Rattle.obligations.specs.declared.Run.{Run}
@@ -106,13 +108,13 @@ module _ (left right c : List ℕ) where
           → Answered (x and_then λ t. match_verdict (followed_view left right c side) (followed_ranks left right c side) side start path states blocks)
           (flat_map entry_bytes (matched_along (followed_view left right c side) (followed_ranks left right c side) path start))
           (flat_map block_bytes (given_along (followed_view left right c side) (followed_ranks left right c side) path start)) states blocks answer states blocks
-      go (go_on x) e = absurd (n (ap (λ (a : Answer). a.code) e))
-      go (refused_with a) e = (e, (refl, refl))
+      go (Ok x) e = absurd (n (ap (λ (a : Answer). a.code) e))
+      go (Err a) e = (e, (refl, refl))
 
 -- ---- on bytes that the judge accepts
 
 -- two sides, from either, where all obligations are met of the view that they hold
-met-on : (c : List ℕ) {ours theirs : List ℕ} {run : Run} (v : View) (r' : Ranks)
+met-on : (c : List ℕ) {ours theirs : Side} {run : Run} (v : View) (r' : Ranks)
     → PlainSide ours → PlainSide theirs → view_in ours theirs ≡ v → WellFormed v
     → EveryObligation Meets v (ranks_in c run) → EveryObligation Meets (flip v) r' → AllMet ours theirs c run
 met-on c {run = run} v r' a b e w D D' =
@@ -151,7 +153,7 @@ module _ (left right c : List ℕ) (zero : (judge_known Plain left right c).code
   no-side {side} start path states blocks n m e =
       let v = followed_view left right c side in
       let w : wrong_path side v.own path ≡ true = decides-true (path-decides side v.own path) (inl (n, m)) in
-      let x : match_verdict v (followed_ranks left right c side) side start path states blocks ≡ refused_with (six_numbers 25 4 0) = rw w in
+      let x : match_verdict v (followed_ranks left right c side) side start path states blocks ≡ Err (six_numbers 25 4 0) = rw w in
       followed-as side start path states blocks (answered-refusal _ _ states blocks x e)
 
   module _ (bytes : AreBytes c) {s : Sides} (certified : CertifiedSides left right c s) where

@@ -9,6 +9,8 @@ use native.Mathlib.Omega.{arith}
 use lib.Dec.{T}
 use lib.ListN.{length, take, drop, length-append, length-drop}
 use lib.Seq.{length-take-le, take_at, take_all}
+use Rattle.std.specs.Prelude.{Option}
+use Rattle.lists.specs.Below.{some_below}
 use Rattle.lists.specs.Numbers.{byte_at, big_bytes}
 use Rattle.lists.proofs.FlatLaws.{flat_append}
 use Rattle.bisimulation.specs.Clauses.{Meets}
@@ -29,6 +31,7 @@ use Rattle.bisimulation.proofs.StandingLaws.{
   standing-stop,
   path-matched,
 }
+use Rattle.sides.specs.declared.Side.{Side}
 use Rattle.sides.specs.Views.{view_in}
 use Rattle.sides.proofs.ViewLaws.{states-few}
 use Rattle.obligations.specs.declared.Run.{Run}
@@ -75,7 +78,7 @@ number-length e = refl
 
 -- ---- the loop
 
-module _ (ours theirs certificate : List ℕ) (run : Run) (path : List ℕ) (start : ℕ) where
+module _ (ours theirs : Side) (certificate : List ℕ) (run : Run) (path : List ℕ) (start : ℕ) where
   abbrev v : View
   v = view_in ours theirs
 
@@ -136,7 +139,8 @@ module _ (ours theirs certificate : List ℕ) (run : Run) (path : List ℕ) (sta
 
     module _ {found numbers : List ℕ} {place state block count : ℕ} (g : Going found numbers place state block count) where
       -- what the next move asks
-      pub going-stands : {j : ℕ} → j ≡ step_between ours (byte_at path place) (byte_at path (place + 1)) → StandsAt ours theirs path place state j
+      pub going-stands : {step : Option ℕ} → step ≡ some_below 256 (step_between ours (byte_at path place) (byte_at path (place + 1)))
+          → StandsAt ours theirs path place state step
       going-stands e = record { path-is = from.path-is; inside = g.standing.inside; related = g.standing.related; step_is = e }
 
       -- It goes on into a new block, at x.

@@ -1,4 +1,5 @@
 -- Laws of the verdict on a path, test after test: what is refused and what is written after each; and what is known of a path that passes. Assumes nothing.
+use Rattle.std.specs.Prelude.{Ok, Err}
 use Prim.Native.Nat.{ℕ, ◌+◌, ◌*◌, ◌≤◌, ◌<◌}
 use mathlib.Core.Path.{◌≡◌, refl, sym, ap, ◌∙◌}
 use mathlib.Core.Logic.{inl, inr, ⊎_elim}
@@ -15,10 +16,11 @@ use Rattle.bisimulation.specs.Systems.{System, View, Ranks}
 use Rattle.bisimulation.specs.PathProperty.{IsPath}
 use Rattle.bisimulation.proofs.PathMatchingLaws.{path-i}
 use Rattle.answers.specs.Numbers.{six_numbers}
-use Rattle.answers.specs.Verdicts.{Verdict, go_on, refused_with, answer_of, output_after}
+use Rattle.answers.specs.Verdicts.{Verdict, answer_of, output_after}
 use Rattle.answers.specs.declared.Answer.{Answer}
 use Rattle.answers.proofs.DecideLaws.{decides-true, decides-false, decides-stable}
 use Rattle.words.specs.Bits.{has_bit}
+use Rattle.sides.specs.declared.Side.{Side}
 use Rattle.sides.specs.Side.{system_in, related_to}
 use Rattle.sides.specs.Views.{view_in}
 use Rattle.path_matcher.specs.Following.{matched_along, wrong_path, wrong_start, no_room, match_verdict}
@@ -35,11 +37,11 @@ Answered verdict bytes bytes' states blocks answer states' blocks' =
     (answer ≡ answer_of (six_numbers 0 0) verdict) × ((states' ≡ output_after verdict bytes states) × (blocks' ≡ output_after verdict bytes' blocks))
 
 module _ {verdict : Verdict ℕ} (bytes bytes' states blocks : List ℕ) where
-  pub answered-refusal : {a answer : Answer} → verdict ≡ refused_with a → answer ≡ a
+  pub answered-refusal : {a answer : Answer} → verdict ≡ Err a → answer ≡ a
       → Answered verdict bytes bytes' states blocks answer states blocks
   answered-refusal e q = rw (e, q) (refl, (refl, refl))
 
-  pub answered-success : {k : ℕ} {answer : Answer} {states' blocks' : List ℕ} → verdict ≡ go_on k → answer ≡ six_numbers 0 0 k
+  pub answered-success : {k : ℕ} {answer : Answer} {states' blocks' : List ℕ} → verdict ≡ Ok k → answer ≡ six_numbers 0 0 k
       → states' ≡ put_front bytes states → blocks' ≡ put_front bytes' blocks
       → Answered verdict bytes bytes' states blocks answer states' blocks'
   answered-success e q x y = rw e (q, (x, y))
@@ -53,21 +55,21 @@ module _ (v : View) (r : Ranks) (start : ℕ) (path states blocks : List ℕ) wh
   abbrev count : ℕ
   count = length (matched_along v r path start)
 
-  pub verdict-25 : wrong_path 0 v.own path ≡ true → verdict ≡ refused_with (six_numbers 25 4 0)
+  pub verdict-25 : wrong_path 0 v.own path ≡ true → verdict ≡ Err (six_numbers 25 4 0)
   unfolding match_verdict
   verdict-25 e = rw e
 
   module _ (p : wrong_path 0 v.own path ≡ false) where
-    pub verdict-26 : wrong_start v path start ≡ true → verdict ≡ refused_with (six_numbers 26 4 0)
+    pub verdict-26 : wrong_start v path start ≡ true → verdict ≡ Err (six_numbers 26 4 0)
     unfolding match_verdict
     verdict-26 e = rw (p, e)
 
     module _ (q : wrong_start v path start ≡ false) where
-      pub verdict-27 : no_room count (length path) states blocks ≡ true → verdict ≡ refused_with (six_numbers 27 3 0)
+      pub verdict-27 : no_room count (length path) states blocks ≡ true → verdict ≡ Err (six_numbers 27 3 0)
       unfolding match_verdict
       verdict-27 e = rw (p, q, e)
 
-      pub verdict-on : no_room count (length path) states blocks ≡ false → verdict ≡ go_on count
+      pub verdict-on : no_room count (length path) states blocks ≡ false → verdict ≡ Ok count
       unfolding match_verdict
       verdict-on e = rw (p, q, e)
 
@@ -86,7 +88,7 @@ module _ (S : System) (path : List ℕ) (p : wrong_path 0 S path ≡ false) wher
       (λ i h. elim (dec_lt (byte_at path i) S.states) [ yes l ↦ l | no l ↦ absurd (right (inr (inr (inr (inl (i, h, omega arith)))))) ])
       (λ i h. decides-stable (has-step-decides S (byte_at path i) (byte_at path (i + 1))) (λ n. right (inr (inr (inr (inr (i, h, n)))))))
 
-module _ {ours theirs certificate : List ℕ} {run : Run} (all : AllMet ours theirs certificate run) (path : List ℕ) (start : ℕ) {s word : ℕ} {has : Bool}
+module _ {ours theirs : Side} {certificate : List ℕ} {run : Run} (all : AllMet ours theirs certificate run) (path : List ℕ) (start : ℕ) {s word : ℕ} {has : Bool}
     (es : s ≡ byte_at path 0) (ew : word ≡ related_to ours s) (eh : has ≡ has_bit word start) where
   abbrev view : View
   view = view_in ours theirs

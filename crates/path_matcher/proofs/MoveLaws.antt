@@ -1,4 +1,6 @@
 -- Laws of one move of the path matcher: it is read off two sides, and it tells which law of a standing loop applies. Assumes nothing.
+use Rattle.outcomes.specs.declared.Outcome.{Outcome}
+use Rattle.outcomes.specs.declared.Outcome.TheVariants.{Met}
 use Prim.Native.Nat.{ℕ, ◌+◌, ◌≤◌, ◌<◌}
 use mathlib.Core.Path.{◌≡◌, refl, sym, ap, ◌∙◌, subst}
 use mathlib.Core.Logic.{◌⊎◌, inl, inr}
@@ -9,6 +11,11 @@ use native.Mathlib.Decide.{dec_lt}
 use lib.Dec.{T, ltb, eqb, eqb→eq, ltb→lt, lt→ltb}
 use lib.ListN.{length}
 use borrow.Author.Tests.{lt-ltb, le-ltb}
+use Rattle.std.specs.Prelude.{Option, Some, None}
+use Rattle.lists.proofs.SomeLaws.{some-e, none-e}
+use Rattle.sides.specs.declared.Side.{Side}
+use Rattle.sides.proofs.ViewLaws.{steps-few}
+use Rattle.path_matcher.specs.Following.{has_step}
 use Rattle.lists.specs.Numbers.{byte_at}
 use Rattle.lists.proofs.BelowLaws.{any-e, any-i, smallest-one}
 use Rattle.lists.proofs.BoolLaws.{and_l, and_r, and_i, eq→eqb, T_true, not-T-false}
@@ -27,21 +34,19 @@ use Rattle.sides.specs.Built.{PlainSide}
 use Rattle.sides.proofs.PlainLaws.{plain-entered, plain-small}
 use Rattle.outcomes.specs.declared.Clause.{Clause}
 use Rattle.outcomes.specs.declared.Clause.TheVariants.{Step}
-use Rattle.outcomes.specs.declared.Outcome.{Outcome}
-use Rattle.outcomes.specs.declared.Outcome.TheVariants.{Met}
 use Rattle.outcomes.specs.Obligation.{outcome_after2a, is_apart, obligation_at}
 use Rattle.obligations.specs.declared.Run.{Run}
 use Rattle.obligations.specs.OnSides.{obligation_in}
 use Rattle.obligations.proofs.OnSidesLaws.{obligation-in}
 use Rattle.path_matcher.specs.declared.Move.{Move}
 use Rattle.path_matcher.specs.declared.Move.TheVariants.{Enter, Stay, Push, End}
-use Rattle.path_matcher.specs.OnSides.{ranks_in, AllMet, StandsAt, move_after, next_move}
+use Rattle.path_matcher.specs.OnSides.{step_between, ranks_in, AllMet, StandsAt, move_after, next_move}
 use Rattle.path_matcher.proofs.FollowCauseLaws.{has-step-decides}
 use Rattle.path_matcher.proofs.PathLaws.{between_is}
 
 -- ---- the smallest state that a step enters
 
-module _ {side : List ℕ} (plain : PlainSide side) (s : ℕ) {x : ℕ} (e : x ≡ first_bit (silent_from side s)) where
+module _ {side : Side} (plain : PlainSide side) (s : ℕ) {x : ℕ} (e : x ≡ first_bit (silent_from side s)) where
   abbrev S : System
   S = system_in side
 
@@ -83,8 +88,8 @@ module _ {side : List ℕ} (plain : PlainSide side) (s : ℕ) {x : ℕ} (e : x �
 
 -- ---- the move is read off the sides
 
-module _ {ours theirs certificate : List ℕ} {run : Run} {path : List ℕ} {place state j : ℕ} (all : AllMet ours theirs certificate run)
-    (at : StandsAt ours theirs path place state j) where
+module _ {ours theirs : Side} {certificate : List ℕ} {run : Run} {path : List ℕ} {place state : ℕ} {step : Option ℕ} (all : AllMet ours theirs certificate run)
+    (at : StandsAt ours theirs path place state step) where
   abbrev v : View
   v = view_in ours theirs
 
@@ -92,32 +97,41 @@ module _ {ours theirs certificate : List ℕ} {run : Run} {path : List ℕ} {pla
   r = ranks_in certificate run
 
   module _ (more : place + 1 < length path) where
-    step : ℕ
-    step = step_of v.own (byte_at path place) (byte_at path (place + 1))
+    enters-next : T (has_step v.own (byte_at path place) (byte_at path (place + 1)))
+    enters-next = (has-step-decides v.own _ _).complete ((path-e v.own path at.path-is).2 place more)
+
+    between : step_between ours (byte_at path place) (byte_at path (place + 1)) ≡ step_of v.own (byte_at path place) (byte_at path (place + 1))
+    between = between_is ours all.plain.linked _ _ enters-next
+
+    small : step_of v.own (byte_at path place) (byte_at path (place + 1)) < v.own.steps
+    small = (step-of v.own _ _ ((path-e v.own path at.path-is).2 place more)).0
+
+    -- there is a step
+    pub some-step : step ≡ None → ⊥
+    some-step e = let n = none-e (sym at.step_is ∙ e) in omega (arith, between, small, steps-few ours)
 
     -- j is the step from the place
-    pub step-named : j ≡ step_of v.own (byte_at path place) (byte_at path (place + 1))
-    step-named =
-        at.step_is
-        ∙ between_is ours all.plain.linked _ _ ((has-step-decides v.own _ _).complete ((path-e v.own path at.path-is).2 place more))
+    pub step-named : {j : ℕ} → step ≡ Some j → j ≡ step_of v.own (byte_at path place) (byte_at path (place + 1))
+    step-named e = sym (some-e (sym at.step_is ∙ e)).1 ∙ between
 
-    outcome-named : obligation_in ours theirs certificate run j state ≡ obligation_at v r (step_of v.own (byte_at path place) (byte_at path (place + 1))) state
-    outcome-named =
-        let q = step-of v.own _ _ ((path-e v.own path at.path-is).2 place more) in
+    outcome-named : {j : ℕ} → step ≡ Some j
+        → obligation_in ours theirs certificate run j state ≡ obligation_at v r (step_of v.own (byte_at path place) (byte_at path (place + 1))) state
+    outcome-named {j} e =
         let h = all.formed.there.related< state (byte_at path place) at.related in
         obligation-in ours theirs certificate run j state r all.plain.linked all.plain'.linked
-        (record { stutter-are = λ s t a b. refl; match-are = λ i t. refl }) (omega arith) (rw step-named q.0)
-        ∙ ap (λ (i : ℕ). obligation_at v r i state) step-named
+        (record { stutter-are = λ s t a b. refl; match-are = λ i t. refl }) (omega arith) (rw (step-named e) small)
+        ∙ ap (λ (i : ℕ). obligation_at v r i state) (step-named e)
 
     -- by the obligation's outcome
-    pub move-by : {o : Outcome} (o' : Outcome) → o ≡ obligation_in ours theirs certificate run j state → o ≡ o'
+    pub move-by : {j : ℕ} → step ≡ Some j → {o : Outcome} (o' : Outcome) → o ≡ obligation_in ours theirs certificate run j state → o ≡ o'
         → move_after o' ≡ next_move v r path place state
     unfolding next_move
-    move-by o' e q = sym (rw (lt-ltb (place + 1) (length path) more) (ap move_after (sym (outcome-named) ∙ sym e ∙ q)))
+    move-by is o' e q = sym (rw (lt-ltb (place + 1) (length path) more) (ap move_after (sym (outcome-named is) ∙ sym e ∙ q)))
 
-    pub move-met : {o : Outcome} {clause : Clause} {x : ℕ} (k : Clause) → o ≡ obligation_in ours theirs certificate run j state → o ≡ Met clause x
+    pub move-met : {j : ℕ} → step ≡ Some j → {o : Outcome} {clause : Clause} {x : ℕ} (k : Clause)
+        → o ≡ obligation_in ours theirs certificate run j state → o ≡ Met clause x
         → clause ≡ k → move_after (Met k x) ≡ next_move v r path place state
-    move-met {x = x} k e q c = move-by (Met k x) e (q ∙ ap (λ (z : Clause). Met z x) c)
+    move-met is {x = x} k e q c = move-by is (Met k x) e (q ∙ ap (λ (z : Clause). Met z x) c)
 
   module _ (last : length path ≤ place + 1) where
     -- past the last state

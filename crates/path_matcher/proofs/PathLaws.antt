@@ -17,10 +17,10 @@ use Rattle.bisimulation.specs.Triples.{step_of}
 use Rattle.lists.proofs.BoolLaws.{false-not-T}
 use Rattle.answers.proofs.DecideLaws.{decides-true, decides-false}
 use Rattle.words.specs.Bits.{has_bit}
-use Rattle.sides.specs.Side.{system_in, silent_from, first_step, next_step, linked_from, steps_in}
+use Rattle.sides.specs.declared.Side.{Side}
+use Rattle.sides.specs.Side.{system_in, silent_from, steps_in}
 use Rattle.sides.specs.Built.{Linked, PlainSide}
 use Rattle.sides.proofs.PlainLaws.{plain-entered}
-use Rattle.sides.proofs.WalkLaws.{walk-next, walk_end}
 use Rattle.path_matcher.specs.Following.{has_step, wrong_path}
 use Rattle.path_matcher.specs.FollowCauses.{WrongPath}
 use Rattle.path_matcher.specs.OnSides.{first_to, step_between}
@@ -28,31 +28,28 @@ use Rattle.path_matcher.proofs.FollowCauseLaws.{has-step-decides, path-decides}
 
 -- ---- the walk to the step between two states
 
-module _ (side : List ℕ) (u : ℕ) where
-  -- What is found from step j on.
-  abbrev pub found_from : ℕ → ℕ
-  found_from j = first_to side u (linked_from side 256 j)
+module _ (side : Side) (u : ℕ) {left : List ℕ} where
+  -- What is found among the steps that are left.
+  pub between_start : (s : ℕ) → left ≡ steps_in side s → step_between side s u ≡ first_to side u left
+  unfolding step_between
+  between_start s e = ap (first_to side u) (sym e)
 
-  pub between_start : (s : ℕ) {j : ℕ} → j ≡ first_step side s → step_between side s u ≡ found_from j
-  unfolding step_between steps_in
-  between_start s e = ap found_from (sym e)
-
-  pub between-here : (j : ℕ) → j < 256 → (system_in side).to j ≡ u → found_from j ≡ j
+  pub between-here : {j : ℕ} {js : List ℕ} → left ≡ j ∷ js → (system_in side).to j ≡ u → first_to side u left ≡ j
   unfolding first_to
-  between-here j h e = ap (first_to side u) (walk-next side j h) ∙ rw (eq-eqb ((system_in side).to j) u e)
+  between-here {j} l e = ap (first_to side u) l ∙ rw (eq-eqb ((system_in side).to j) u e)
 
-  pub between_next : (j : ℕ) {k : ℕ} → j < 256 → ¬ ((system_in side).to j ≡ u) → k ≡ next_step side j → found_from j ≡ found_from k
+  pub between_next : {j : ℕ} {js : List ℕ} → left ≡ j ∷ js → ¬ ((system_in side).to j ≡ u) → first_to side u left ≡ first_to side u js
   unfolding first_to
-  between_next j h n e = ap (first_to side u) (walk-next side j h) ∙ rw (ne_eqb ((system_in side).to j) u n) (ap found_from (sym e))
+  between_next {j} l n = ap (first_to side u) l ∙ rw (ne_eqb ((system_in side).to j) u n)
 
-  pub between-end : (j : ℕ) → 256 ≤ j → found_from j ≡ 256
+  pub between-end : left ≡ [] → first_to side u left ≡ 256
   unfolding first_to
-  between-end j h = ap (first_to side u) (walk_end side j h)
+  between-end l = ap (first_to side u) l
 
 -- ---- it is the theory's step
 
 -- among the indices that pass the one test, the first that passes the other too
-first-among : (side : List ℕ) (u n : ℕ) (g : ℕ → ℕ) (p : ℕ → Bool) → T (any_below n (λ i. p i && eqb ((system_in side).to (g i)) u))
+first-among : (side : Side) (u n : ℕ) (g : ℕ → ℕ) (p : ℕ → Bool) → T (any_below n (λ i. p i && eqb ((system_in side).to (g i)) u))
     → first_to side u (join_below n (λ i. cond (p i) (g i ∷ []) [])) ≡ g (first_below n (λ i. p i && eqb ((system_in side).to (g i)) u))
 unfolding any_below first_below join_below first_to
 first-among side u zero g p h = absurd h
@@ -73,7 +70,7 @@ first-among side u (suc n) g p h = go (p 0) (eqb ((system_in side).to (g 0)) u) 
     go true false e h rest = rw e (rest h)
     go false b e h rest = rest h
 
-module _ (side : List ℕ) (linked : Linked side) (s u : ℕ) where
+module _ (side : Side) (linked : Linked side) (s u : ℕ) where
   pub between_is : T (has_step (system_in side) s u) → step_between side s u ≡ step_of (system_in side) s u
   unfolding step_between steps_from step_of has_step
   between_is h = ap (first_to side u) (linked.steps-are s) ∙ first-among side u (system_in side).steps (λ i. i) (λ j. eqb ((system_in side).from j) s) h
@@ -127,7 +124,7 @@ module _ (S : System) (path : List ℕ) where
   a-path some few r = sym (decides-false (path-decides 0 S path) (no-fault some few r))
 
 -- the word of the states that steps from s enter tells whether one enters u
-pub read_step : {side : List ℕ} → PlainSide side → (path : List ℕ) (k i : ℕ) {s u word : ℕ} {has : Bool}
+pub read_step : {side : Side} → PlainSide side → (path : List ℕ) (k i : ℕ) {s u word : ℕ} {has : Bool}
     → s ≡ byte_at path k → u ≡ byte_at path i → word ≡ silent_from side s → has ≡ has_bit word u
     → has_step (system_in side) (byte_at path k) (byte_at path i) ≡ has
 unfolding has_step

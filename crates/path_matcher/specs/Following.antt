@@ -1,14 +1,14 @@
 -- A run followed on the other model (document 02, Ask 3), for any bytes and any numbers: the refusal of a judge that knows "TPT" alone, so that a table with
 -- keys gets 2 (Ask 9); 25, 26 and 27, in this order; or the matching path, over the front of the one output, and the given states' block numbers, over the
 -- front of the other. What is followed, and how it is cut into blocks, is the path matcher's (bisimulation/specs/PathMatching.antt).
-use Rattle.std.specs.Prelude.{ℕ, ◌+◌, ◌*◌, ◌-◌, Bool, cond, not, ◌&&◌, ◌||◌, ltb, leb, eqb, length, drop}
+use Rattle.std.specs.Prelude.{ℕ, ◌+◌, ◌*◌, ◌-◌, Bool, cond, not, ◌&&◌, ◌||◌, ltb, leb, eqb, length, drop, Ok}
 use mathlib.Core.List.{List, ◌∷◌, flat_map}
 use Rattle.lists.specs.Below.{any_below}
 use Rattle.lists.specs.Numbers.{byte_at, big_bytes}
 use Rattle.bisimulation.specs.PathMatching.{Entry, given_entries, matching_entries}
 use Rattle.bisimulation.specs.Systems.{System, View, Ranks, flip, swap}
 use Rattle.answers.specs.Numbers.{six_numbers}
-use Rattle.answers.specs.Verdicts.{Verdict, go_on, ◌and_then◌, pass_if, answer_of, output_after}
+use Rattle.answers.specs.Verdicts.{Verdict, ◌and_then◌, pass_if, answer_of, output_after}
 use Rattle.answers.specs.declared.Answer.{Answer}
 use Rattle.certificates.specs.CertificateModel.{certified_view, certified_ranks}
 use Rattle.table_reader.specs.declared.Known.TheVariants.{Plain}
@@ -69,7 +69,7 @@ match_verdict v r side start path states blocks =
     pass_if (not (wrong_path side v.own path)) (six_numbers 25 4 0) and_then λ x.
     pass_if (not (wrong_start v path start)) (six_numbers 26 4 0) and_then λ x.
     pass_if (not (no_room (length (matched_along v r path start)) (length path) states blocks)) (six_numbers 27 3 0) and_then λ x.
-    go_on (length (matched_along v r path start))
+    Ok (length (matched_along v r path start))
 
 -- The tables, the relation and the ranks of a certificate, as the path's side sees them.
 abbrev pub followed_view : (left right c : List ℕ) → (side : ℕ) → View

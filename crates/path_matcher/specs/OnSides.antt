@@ -1,5 +1,8 @@
 -- Inner: the path and what matches it, as they are read off two sides and a certificate; and what is known of them where the judge accepts.
-use Rattle.std.specs.Prelude.{ℕ, ◌+◌, ◌*◌, ◌≤◌, ◌<◌, ◌≡◌, cond, not, ◌&&◌, List, [], ◌∷◌, T, ltb, eqb, length}
+use Rattle.outcomes.specs.declared.Outcome.{Outcome}
+use Rattle.outcomes.specs.declared.Outcome.TheVariants.{Met, Failed}
+use Rattle.std.specs.Prelude.{ℕ, ◌+◌, ◌*◌, ◌≤◌, ◌<◌, ◌≡◌, cond, not, ◌&&◌, List, [], ◌∷◌, T, ltb, eqb, length, Option}
+use Rattle.lists.specs.Below.{some_below}
 use Rattle.lists.specs.Numbers.{byte_at}
 use Rattle.bisimulation.specs.Clauses.{Meets, EveryObligation}
 use Rattle.bisimulation.specs.Matcher.{smallest_entered, moves}
@@ -9,12 +12,11 @@ use Rattle.bisimulation.specs.Systems.{View, Ranks, WellFormed, flip}
 use Rattle.bisimulation.specs.Triples.{step_of}
 use Rattle.answers.specs.Verdicts.{Verdict}
 use Rattle.tables.specs.Table.{max_steps}
+use Rattle.sides.specs.declared.Side.{Side}
 use Rattle.sides.specs.Side.{system_in, steps_in}
 use Rattle.sides.specs.Views.{view_in}
 use Rattle.sides.specs.Built.{PlainSide}
 use Rattle.outcomes.specs.declared.Clause.TheVariants.{Step, Stutter, Match}
-use Rattle.outcomes.specs.declared.Outcome.{Outcome}
-use Rattle.outcomes.specs.declared.Outcome.TheVariants.{Met, Failed}
 use Rattle.outcomes.specs.Obligation.{obligation_at}
 use Rattle.obligations.specs.declared.Run.{Run}
 use Rattle.path_matcher.specs.declared.Move.{Move}
@@ -22,12 +24,12 @@ use Rattle.path_matcher.specs.declared.Move.TheVariants.{Enter, Stay, Push, End}
 use Rattle.path_matcher.specs.Following.{given_along, matched_along, match_verdict}
 
 -- The first of the steps that enters u, and 256 where none does.
-unfoldable pub first_to : (side : List ℕ) → ℕ → List ℕ → ℕ
+unfoldable pub first_to : (side : Side) → ℕ → List ℕ → ℕ
 first_to side u [] = max_steps
 first_to side u (j ∷ js) = cond (eqb ((system_in side).to j) u) j (first_to side u js)
 
 -- The step from s to u, among those that the links lead along.
-unfoldable pub step_between : (side : List ℕ) → ℕ → ℕ → ℕ
+unfoldable pub step_between : (side : Side) → ℕ → ℕ → ℕ
 step_between side s u = first_to side u (steps_in side s)
 
 -- Our side's ranks, which stand in the certificate where the run begins. The other side's are not looked at, and stand as 0.
@@ -40,7 +42,7 @@ ranks_in certificate run =
       match' = λ k s. 0;
     }
 
-module _ (ours theirs certificate : List ℕ) (run : Run) where
+module _ (ours theirs : Side) (certificate : List ℕ) (run : Run) where
   abbrev pub given_in : (path : List ℕ) → (start : ℕ) → List Entry
   given_in = given_along (view_in ours theirs) (ranks_in certificate run)
 
@@ -61,17 +63,17 @@ module _ (ours theirs certificate : List ℕ) (run : Run) where
     pub met' : EveryObligation Meets (flip (view_in ours theirs)) ranks'
 
 -- The bytes are a path of our table, and its first state is related to the start.
-pub record StartsAt (ours theirs path : List ℕ) (start : ℕ) : Type 0 where
+pub record StartsAt (ours theirs : Side) (path : List ℕ) (start : ℕ) : Type 0 where
   pub few : length path ≤ 256
   pub path-is : IsPath (system_in ours) path
   pub related : T ((view_in ours theirs).related (byte_at path 0) start)
 
--- Their state stands beside state `place` of the path, to which it is related, and step j goes from there to the next.
-pub record StandsAt (ours theirs path : List ℕ) (place state j : ℕ) : Type 0 where
+-- Their state stands beside state `place` of the path, to which it is related, and the step, if there is one, goes from there to the next.
+pub record StandsAt (ours theirs : Side) (path : List ℕ) (place state : ℕ) (step : Option ℕ) : Type 0 where
   pub path-is : IsPath (system_in ours) path
   pub inside : place < length path
   pub related : T ((view_in ours theirs).related (byte_at path place) state)
-  pub step_is : j ≡ step_between ours (byte_at path place) (byte_at path (place + 1))
+  pub step_is : step ≡ some_below max_steps (step_between ours (byte_at path place) (byte_at path (place + 1)))
 
 -- ---- one move of the path matcher
 

@@ -4,6 +4,7 @@
 
 ghost use Rattle.std.specs.Prelude.{◌≡◌, ◌+◌, ◌*◌, ◌≤◌, ◌<◌, length, take, drop};
 ghost use mathlib.Core.List.{◌++◌, flat_map};
+ghost use Rattle.lists.specs.Below.{some_below};
 ghost use Rattle.lists.specs.Numbers.{byte_at, big_bytes};
 ghost use Rattle.answers.specs.Numbers.{six_numbers};
 ghost use Rattle.answers.specs.Verdicts.{answer_of, output_after};
@@ -20,10 +21,10 @@ ghost use Rattle.path_matcher.specs.OnSides.{AllMet, StartsAt, StandsAt, next_mo
 use answers::Answer;
 use certified_sides::sides_of;
 use checker::judge_known;
-use lists::{byte, part_of, put_front};
-use obligations::{Run, obligation_at};
+use lists::{byte, part_of, put_be, put_front};
+use obligations::{BothRanks, Ranks, obligation_at};
 use outcomes::{Clause, Outcome};
-use sides::{Side, first, next, related, silent, states, to};
+use sides::{Side, View};
 use table_reader::Known;
 use tables::Head;
 
@@ -58,25 +59,19 @@ fn refusal(code: usize, file: usize) -> Answer
 
 // ---- the given path
 
-// The step from state i of the path to the next, and 256 where there is none.
-fn step_after(side: &Side, path: &[u8], i: usize) -> usize
+// The step from state i of the path to the next, if there is one.
+fn step_after(side: &Side, path: &[u8], i: usize) -> Option<usize>
     requires { i < length path.now }
-    ensures { result ≡ step_between side.now (byte_at path.now i) (byte_at path.now (i + 1)) }
+    ensures { result ≡ some_below 256 (step_between side.now (byte_at path.now i) (byte_at path.now (i + 1))) }
 {
     let s = byte(path, i);
     let u = byte(path, i + 1);
-    let mut j = first(side, s);
-    while j < Head::MAX_STEPS {
-        if to(side, j) == u {
-            return j;
+    for j in side.steps_from(s) {
+        if side.to(j) == u {
+            return Some(j);
         }
-        let later = next(side, j);
-        if later <= j {
-            return Head::MAX_STEPS;
-        }
-        j = later;
     }
-    Head::MAX_STEPS
+    None
 }
 
 // Whether the bytes are no path of the side's table, which begins anywhere and has from 1 to 256 states.
@@ -85,28 +80,20 @@ fn is_no_path(side: &Side, path: &[u8]) -> bool
     ensures { result ≡ wrong_path 0 (system_in side.now) path.now }
 {
     let count = path.len();
-    if count == 0 {
+    if count == 0 || MOST_GIVEN < count {
         return true;
     }
-    if MOST_GIVEN < count {
-        return true;
-    }
-    let n = states(side);
+    let n = side.states();
     let mut s = byte(path, 0);
     if n <= s {
         return true;
     }
-    let mut i: usize = 1;
-    while i < count {
-        let after = silent(side, s);
+    for i in 1..count {
+        let after = side.silent(s);
         s = byte(path, i);
-        if !after.has(s) {
+        if !after.has(s) || n <= s {
             return true;
         }
-        if n <= s {
-            return true;
-        }
-        i += 1;
     }
     false
 }
@@ -118,9 +105,7 @@ fn put_number(block: usize, output: &mut [u8], i: usize)
     requires { 2 * i + 2 ≤ length output.old }
     ensures { output.new ≡ take (2 * i) output.old ++ big_bytes 2 block ++ drop (2 * i + 2) output.old }
 {
-    let at = 2 * i;
-    output[at] = (block / 256 % 256) as u8;
-    output[at + 1] = (block % 256) as u8;
+    put_be(output, 2 * i, 2, block as u64);
 }
 
 // Writes a state and its block's number over the three bytes of written state i.
@@ -131,41 +116,41 @@ fn put_entry(state: usize, block: usize, output: &mut [u8], i: usize)
 {
     let at = 3 * i;
     output[at] = state as u8;
-    output[at + 1] = (block / 256 % 256) as u8;
-    output[at + 2] = (block % 256) as u8;
+    put_be(output, at + 1, 2, block as u64);
 }
 
 // ---- the matching path
 
-// The smallest state that a step from s enters, and 64 where no step leaves s.
-fn smallest_after(side: &Side, s: usize) -> usize
-    ensures { result ≡ first_bit (silent_from side.now s) }
+// The smallest state that a step from s enters, if a step leaves s.
+fn smallest_after(side: &Side, s: usize) -> Option<usize>
+    ensures { result ≡ some_below 64 (first_bit (silent_from side.now s)) }
 {
-    let states = silent(side, s);
-    states.first()
+    let states = side.silent(s);
+    states.smallest()
 }
 
-// How it goes on from their state, beside state `place` of the path, from which step j goes to the next: by the obligation's outcome; and where the given
+// How it goes on from their state, beside state `place` of the path, from which the step goes to the next: by the obligation's outcome; and where the given
 // path has ended in a terminal state, to the smallest state that a step enters.
 fn next_move(
-    ours: &Side,
-    theirs: &Side,
-    certificate: &[u8],
-    run: Run,
+    view: View,
+    ranks: Ranks,
     path: &[u8],
     place: usize,
     state: usize,
-    j: usize,
+    step: Option<usize>,
 ) -> Move
-    requires all_met { AllMet ours.now theirs.now certificate.now run }
-    requires stands_at { StandsAt ours.now theirs.now path.now place state j }
-    ensures { result ≡ next_move (view_in ours.now theirs.now) (ranks_in certificate.now run) path.now
-        place state }
+    requires all_met { AllMet view.ours.now view.theirs.now ranks.certificate.now ranks.run }
+    requires stands_at { StandsAt view.ours.now view.theirs.now path.now place state step }
+    ensures { result ≡ next_move (view_in view.entry.ours.now view.entry.theirs.now) (ranks_in ranks.entry.certificate.now ranks.entry.run)
+        path.now place state }
 {
     if place < path.len() - 1 {
-        let outcome = obligation_at(ours, theirs, certificate, run, j, state);
-        let Outcome::Met(clause, x) = outcome else {
-            // In an accepted certificate every obligation is met.
+        // A path has a step from each of its states to the next.
+        let Some(j) = step else {
+            return Move::End;
+        };
+        // In an accepted certificate every obligation is met.
+        let Outcome::Met(clause, x) = obligation_at(view, ranks, j, state) else {
             return Move::End;
         };
         return match clause {
@@ -174,37 +159,35 @@ fn next_move(
             Clause::Match => Move::Push(x),
         };
     }
-    if smallest_after(ours, byte(path, place)) < Head::MAX_STATES {
+    if smallest_after(view.ours, byte(path, place)).is_some() {
         return Move::End;
     }
-    let x = smallest_after(theirs, state);
-    if x < Head::MAX_STATES {
-        return Move::Push(x);
+    match smallest_after(view.theirs, state) {
+        Some(x) => Move::Push(x),
+        None => Move::End,
     }
-    Move::End
 }
 
 // Follows the path of our side from their state `start` on: the states that match it go to the front of `found`, the block numbers of the given ones to the
 // front of `numbers`, and how many states match it is answered.
 fn follow_path(
-    ours: &Side,
-    theirs: &Side,
-    certificate: &[u8],
-    run: Run,
+    view: View,
+    ranks: Ranks,
     start: usize,
     path: &[u8],
     found: &mut [u8; 3 * MOST_STATES],
     numbers: &mut [u8; 2 * MOST_GIVEN],
 ) -> usize
-    requires all_met { AllMet ours.now theirs.now certificate.now run }
-    requires starts_at { StartsAt ours.now theirs.now path.now start }
-    ensures count { result ≡ length (matched_in ours.now theirs.now certificate.now run path.now start) }
+    requires all_met { AllMet view.ours.now view.theirs.now ranks.certificate.now ranks.run }
+    requires starts_at { StartsAt view.ours.now view.theirs.now path.now start }
+    ensures count { result ≡ length
+        (matched_in view.entry.ours.now view.entry.theirs.now ranks.entry.certificate.now ranks.entry.run path.now start) }
     ensures small { result ≤ 16384 }
     ensures long { (length found.new ≡ 49152) × (length numbers.new ≡ 512) }
     ensures states { take (3 * result) found.new ≡ flat_map entry_bytes
-        (matched_in ours.now theirs.now certificate.now run path.now start) }
+        (matched_in view.entry.ours.now view.entry.theirs.now ranks.entry.certificate.now ranks.entry.run path.now start) }
     ensures blocks { take (2 * length path.now) numbers.new ≡ flat_map block_bytes
-        (given_in ours.now theirs.now certificate.now run path.now start) }
+        (given_in view.entry.ours.now view.entry.theirs.now ranks.entry.certificate.now ranks.entry.run path.now start) }
 {
     let matching: &mut [u8] = found;
     let blocks: &mut [u8] = numbers;
@@ -214,9 +197,9 @@ fn follow_path(
     let mut state = start;
     let mut block: usize = 0;
     let mut count: usize = 1;
-    let mut j = step_after(ours, path, 0);
+    let mut step = step_after(view.ours, path, 0);
     loop {
-        let next = next_move(ours, theirs, certificate, run, path, place, state, j);
+        let next = next_move(view, ranks, path, place, state, step);
         match next {
             Move::Enter(x) => {
                 place += 1;
@@ -225,12 +208,12 @@ fn follow_path(
                 put_entry(x, block, matching, count);
                 count += 1;
                 state = x;
-                j = step_after(ours, path, place);
+                step = step_after(view.ours, path, place);
             }
             Move::Stay => {
                 place += 1;
                 put_number(block, blocks, place);
-                j = step_after(ours, path, place);
+                step = step_after(view.ours, path, place);
             }
             Move::Push(x) => {
                 put_entry(x, block, matching, count);
@@ -246,49 +229,40 @@ fn follow_path(
 
 // Follows a path of our side: 25, 26 or 27, or the matching path and the block numbers of the given states over the fronts of the two outputs.
 fn follow_sides(
-    ours: &Side,
-    theirs: &Side,
-    certificate: &[u8],
-    run: Run,
+    view: View,
+    ranks: Ranks,
     start: usize,
     path: &[u8],
     states: &mut [u8],
     blocks: &mut [u8],
 ) -> Answer
-    requires { AllMet ours.now theirs.now certificate.now run }
+    requires { AllMet view.ours.now view.theirs.now ranks.certificate.now ranks.run }
     ensures value { result ≡ answer_of (six_numbers 0 0)
-        (verdict_in ours.now theirs.now certificate.now run start path.now states.old
-        blocks.old) }
+        (verdict_in view.entry.ours.now view.entry.theirs.now ranks.entry.certificate.now ranks.entry.run start path.now
+        states.old blocks.old) }
     ensures states { states.new ≡ output_after
-        (verdict_in ours.now theirs.now certificate.now run start path.now states.old
-        blocks.old)
-        (flat_map entry_bytes (matched_in ours.now theirs.now certificate.now run path.now start))
+        (verdict_in view.entry.ours.now view.entry.theirs.now ranks.entry.certificate.now ranks.entry.run start path.now
+        states.old blocks.old)
+        (flat_map entry_bytes
+        (matched_in view.entry.ours.now view.entry.theirs.now ranks.entry.certificate.now ranks.entry.run path.now start))
         states.old }
     ensures blocks { blocks.new ≡ output_after
-        (verdict_in ours.now theirs.now certificate.now run start path.now states.old
-        blocks.old)
-        (flat_map block_bytes (given_in ours.now theirs.now certificate.now run path.now start))
+        (verdict_in view.entry.ours.now view.entry.theirs.now ranks.entry.certificate.now ranks.entry.run start path.now
+        states.old blocks.old)
+        (flat_map block_bytes
+        (given_in view.entry.ours.now view.entry.theirs.now ranks.entry.certificate.now ranks.entry.run path.now start))
         blocks.old }
 {
-    if is_no_path(ours, path) {
+    if is_no_path(view.ours, path) {
         return refusal(25, 4);
     }
-    let starts = related(ours, byte(path, 0));
+    let starts = view.ours.related(byte(path, 0));
     if !starts.has(start) {
         return refusal(26, 4);
     }
     let mut found: [u8; 3 * MOST_STATES] = [0; 3 * MOST_STATES];
     let mut numbers: [u8; 2 * MOST_GIVEN] = [0; 2 * MOST_GIVEN];
-    let count = follow_path(
-        ours,
-        theirs,
-        certificate,
-        run,
-        start,
-        path,
-        &mut found,
-        &mut numbers,
-    );
+    let count = follow_path(view, ranks, start, path, &mut found, &mut numbers);
     if states.len() < 3 * count {
         return refusal(27, 3);
     }
@@ -327,32 +301,17 @@ fn follow_accepted(
         path.now states.old blocks.old }
 {
     let sides = sides_of(left, right, certificate);
-    let ours = sides.ours;
-    let theirs = sides.theirs;
-    let sizes = sides.sizes;
+    let view = View {
+        ours: &sides.ours,
+        theirs: &sides.theirs,
+    };
+    let ranks = BothRanks::of(certificate, sides.sizes);
+    // The C interface gives the side as a number, which may name none.
     if side == 0 {
-        return follow_sides(
-            &ours,
-            &theirs,
-            certificate,
-            Run::left(sizes),
-            start,
-            path,
-            states,
-            blocks,
-        );
+        return follow_sides(view, ranks.of_left(), start, path, states, blocks);
     }
     if side == 1 {
-        return follow_sides(
-            &theirs,
-            &ours,
-            certificate,
-            Run::right(sizes),
-            start,
-            path,
-            states,
-            blocks,
-        );
+        return follow_sides(view.turned(), ranks.of_right(), start, path, states, blocks);
     }
     refusal(25, 4)
 }

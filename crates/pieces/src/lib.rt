@@ -13,10 +13,8 @@ fn length_at(input: &[u8], i: usize) -> usize
     ensures small { result ≤ i * 65537 }
 {
     let mut at: usize = 0;
-    let mut k: usize = 0;
-    while k < i {
-        at = at + 2 + read_be16(input, at) as usize;
-        k += 1;
+    for _ in 0..i {
+        at += 2 + read_be16(input, at) as usize;
     }
     at
 }
@@ -25,14 +23,14 @@ fn length_at(input: &[u8], i: usize) -> usize
 fn piece_start(input: &[u8], i: u8) -> usize
     ensures { result ≡ piece_start input.now i }
 {
-    length_at(input, i as usize) + 2
+    length_at(input, usize::from(i)) + 2
 }
 
 // Where piece i ends. It may lie past the end of an input that is cut short.
 fn piece_end(input: &[u8], i: u8) -> usize
     ensures { result ≡ piece_end input.now i }
 {
-    length_at(input, i as usize + 1)
+    length_at(input, usize::from(i) + 1)
 }
 
 // Piece i, as far as it is there: 0 left, 1 right, 2 certificate.
@@ -50,8 +48,5 @@ pub fn missing(input: &[u8]) -> usize
     ensures small { result ≤ 196611 - length input.now }
 {
     let wanted = length_at(input, 3);
-    if wanted < input.len() {
-        return 0;
-    }
-    wanted - input.len()
+    wanted.saturating_sub(input.len())
 }

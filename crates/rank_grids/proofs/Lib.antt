@@ -1,2 +1,3 @@
 -- Laws of the grids of ranks.
+pub mod CellByCellLaws
 pub mod RankGridLaws

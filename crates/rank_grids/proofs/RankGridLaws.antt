@@ -11,6 +11,7 @@ use Rattle.lists.proofs.FillLaws.{get_or-grid}
 use Rattle.words.specs.Bits.{has_bit}
 use Rattle.bisimulation.specs.Systems.{View}
 use Rattle.bisimulation.specs.Maker.{stutter_rank, match_rank}
+use Rattle.sides.specs.declared.Side.{Side}
 use Rattle.sides.specs.Side.{related_to}
 use Rattle.sides.specs.Views.{view_in}
 use Rattle.lengths.specs.Cells.{distance_at, chain_at}
@@ -19,7 +20,7 @@ use Rattle.lengths.proofs.DistanceLaws.{match-rank-distance}
 use Rattle.sides.proofs.ViewLaws.{steps-few}
 use Rattle.lengths.proofs.LengthTableLaws.{table-distance, table-chain}
 
-module _ (ours theirs : List ℕ) where
+module _ (ours theirs : Side) where
   abbrev v : View
   v = view_in ours theirs
 

@@ -1,5 +1,6 @@
 -- The maker's, the enquiry's and the commit's answers by what was read: the refusal of a file, a slip with another number, an output that is too short, or
 -- what the examination says. Assumes nothing.
+use Rattle.std.specs.Prelude.{Ok, Err}
 use Prim.Native.Nat.{ℕ, ◌≤◌, ◌<◌}
 use mathlib.Core.Path.{◌≡◌, refl, sym, ap, ◌∙◌, subst}
 use mathlib.Core.Bool.{true, false}
@@ -8,11 +9,8 @@ use lib.ListN.{length}
 use borrow.Author.Tests.{lt-ltb, le-ltb}
 use Rattle.lists.specs.Lists.{put_front}
 use Rattle.answers.specs.Numbers.{six_numbers}
-use Rattle.answers.specs.Verdicts.{Verdict, go_on, refused_with, ◌and_then◌, passed, room_verdict, output_after, as_checked}
+use Rattle.answers.specs.Verdicts.{Verdict, ◌and_then◌, passed, room_verdict, output_after}
 use Rattle.answers.specs.declared.Answer.{Answer}
-use Rattle.answers.specs.declared.Checked.{Checked}
-use Rattle.answers.specs.declared.Checked.TheVariants.{Passed, Refused}
-use Rattle.answers.proofs.CheckedLaws.{was-passed, was-refused}
 use Rattle.table_pairs.specs.declared.Heads.{Heads}
 use Rattle.inputs.specs.Inputs.{read_verdict}
 use Rattle.ranking.specs.declared.Slip.{Slip}
@@ -53,16 +51,16 @@ module _ (left right relation : List ℕ) where
   -- ---- by what was read
 
   -- a file that is not read is refused, whatever is asked after it
-  pub not-read : (between : Verdict (Unit {0})) {a : Answer} → read_verdict left right relation ≡ refused_with a
-      → verdict_with between left right relation ≡ refused_with a
+  pub not-read : (between : Verdict (Unit {0})) {a : Answer} → read_verdict left right relation ≡ Err a
+      → verdict_with between left right relation ≡ Err a
   unfolding verdict_with
   not-read between e = rw e
 
-  pub enquiry-unread : {a : Answer} {s : Slip} → read_verdict left right relation ≡ refused_with a → s ≡ blank_slip
+  pub enquiry-unread : {a : Answer} {s : Slip} → read_verdict left right relation ≡ Err a → s ≡ blank_slip
       → ◌≡◌ {A = Enquiry} (record { answer = a; slip = s }) (enquiry_for left right relation)
   enquiry-unread q e = rw e (enquired-by (not-read passed q))
 
-  module _ {h : Heads} (read : read_verdict left right relation ≡ go_on h) where
+  module _ {h : Heads} (read : read_verdict left right relation ≡ Ok h) where
     -- where all is read, what is asked next, and then the examination
     pub when-read : (between : Verdict (Unit {0})) → verdict_with between left right relation ≡ (between and_then λ x. examined_verdict left right relation)
     unfolding verdict_with
@@ -77,43 +75,37 @@ module _ (left right relation : List ℕ) where
           → (six_numbers 21 3 L ≡ make_answer left right relation output) × (output ≡ make_output left right relation output)
       unfolding verdict_with room_verdict
       too_short {L} e l =
-          let v : make_verdict left right relation output ≡ refused_with (six_numbers 21 3 L) = rw (read, ← e, lt-ltb (length output) L l) in
+          let v : make_verdict left right relation output ≡ Err (six_numbers 21 3 L) = rw (read, ← e, lt-ltb (length output) L l) in
           made_by output v
 
       pub other-slip : (slip : Slip) → same_slip slip (slip_for left right relation) ≡ false
           → (six_numbers 29 2 0 ≡ commit_answer left right relation slip output) × (output ≡ commit_output left right relation slip output)
       unfolding verdict_with slip_verdict
       other-slip slip e =
-          let v : commit_verdict left right relation slip output ≡ refused_with (six_numbers 29 2 0) = rw (read, e) in
+          let v : commit_verdict left right relation slip output ≡ Err (six_numbers 29 2 0) = rw (read, e) in
           committed-by output slip v
 
     -- ---- by what the examination says
 
-    module _ {x : Checked} (ex : x ≡ as_checked (examined_verdict left right relation)) where
-      refuses : {a : Answer} → x ≡ Refused a → examined_verdict left right relation ≡ refused_with a
-      refuses q = was-refused _ _ (sym ex ∙ q)
-
-      passes : x ≡ Passed → examined_verdict left right relation ≡ passed
-      passes q = was-passed _ (sym ex ∙ q)
-
-      pub enquiry-refused : {a : Answer} {s : Slip} → x ≡ Refused a → s ≡ blank_slip
+    module _ {x : Verdict (Unit {0})} (ex : x ≡ examined_verdict left right relation) where
+      pub enquiry-refused : {a : Answer} {s : Slip} → x ≡ Err a → s ≡ blank_slip
           → ◌≡◌ {A = Enquiry} (record { answer = a; slip = s }) (enquiry_for left right relation)
-      enquiry-refused q e = rw e (enquired-by (when-read passed ∙ refuses q))
+      enquiry-refused q e = rw e (enquired-by (when-read passed ∙ sym ex ∙ q))
 
-      pub enquiry-passed : {a : Answer} {s : Slip} → x ≡ Passed → a ≡ six_numbers 0 0 s.certificate → s ≡ slip_for left right relation
+      pub enquiry-passed : {a : Answer} {s : Slip} → x ≡ passed → a ≡ six_numbers 0 0 s.certificate → s ≡ slip_for left right relation
           → ◌≡◌ {A = Enquiry} (record { answer = a; slip = s }) (enquiry_for left right relation)
-      enquiry-passed q f e = rw (f, e) (enquired-by (when-read passed ∙ passes q))
+      enquiry-passed q f e = rw (f, e) (enquired-by (when-read passed ∙ sym ex ∙ q))
 
       module _ (output : List ℕ) {L : ℕ} (e : L ≡ length_for left right) (room : L ≤ length output) where
         has_room : length_for left right ≤ length output
         has_room = subst (λ (n : ℕ). n ≤ length output) e room
 
-        pub make-refused : {a : Answer} → x ≡ Refused a
+        pub make-refused : {a : Answer} → x ≡ Err a
             → (a ≡ make_answer left right relation output) × (output ≡ make_output left right relation output)
-        make-refused q = made_by output (room-verdict output has_room ∙ refuses q)
+        make-refused q = made_by output (room-verdict output has_room ∙ sym ex ∙ q)
 
-        pub make-passed : {a : Answer} {out : List ℕ} → x ≡ Passed → a ≡ six_numbers 0 0 L → out ≡ put_front (file_for left right relation) output
+        pub make-passed : {a : Answer} {out : List ℕ} → x ≡ passed → a ≡ six_numbers 0 0 L → out ≡ put_front (file_for left right relation) output
             → (a ≡ make_answer left right relation output) × (out ≡ make_output left right relation output)
         make-passed q g f =
-            let made = made_by output (room-verdict output has_room ∙ passes q) in
+            let made = made_by output (room-verdict output has_room ∙ sym ex ∙ q) in
             (g ∙ ap (six_numbers 0 0) e ∙ made.0, f ∙ made.1)

@@ -1,4 +1,5 @@
 -- Two tables and a relation that are read, as two sides: what is made of the sides is what the theory makes of the view that the bytes give. Assumes nothing.
+use Rattle.std.specs.Prelude.{Ok}
 use Prim.Native.Nat.{ℕ, ◌*◌, ◌<◌}
 use mathlib.Core.Path.{◌≡◌, refl, sym, ap, ap₂, ◌∙◌, subst}
 use mathlib.Core.List.{List}
@@ -8,11 +9,10 @@ use borrow.Author.Tests.{eq-eqb}
 use Rattle.lists.specs.Lists.{put_front}
 use Rattle.bisimulation.specs.Systems.{System, View, Ranks, WellFormed, flip}
 use Rattle.bisimulation.specs.Maker.{stutter_rank, match_rank, made}
-use Rattle.answers.specs.Verdicts.{Verdict, go_on, as_checked}
+use Rattle.answers.specs.Verdicts.{Verdict}
 use Rattle.tables.specs.declared.Head.{Head}
 use Rattle.tables.specs.Table.{states_of, labels_part, steps_part}
 use Rattle.tables.specs.Model.{system_of}
-use Rattle.table_reader.specs.declared.TableRead.TheVariants as table
 use Rattle.table_reader.specs.TableReading.{read_table}
 use Rattle.table_reader.proofs.TableLaws.{table-ok}
 use Rattle.certificates.specs.declared.Sizes.{Sizes}
@@ -20,6 +20,7 @@ use Rattle.certificates.specs.Layout.{sizes_for, sizes_of, row_length, certifica
 use Rattle.certificates.specs.CertificateModel.{AreBytes, view_of}
 use Rattle.certificate_reader.proofs.CertificateLaws.{relation-ok, sizes-are, view-formed}
 use Rattle.relation_words.specs.Relation.{row_words, column_words}
+use Rattle.sides.specs.declared.Side.{Side}
 use Rattle.sides.specs.Side.{system_in}
 use Rattle.sides.specs.Built.{SideOf}
 use Rattle.sides.specs.Views.{view_in}
@@ -49,7 +50,7 @@ formed left right relation read bytes =
 
 -- ---- the ranks of one side
 
-module _ (ours theirs : List ℕ) where
+module _ (ours theirs : Side) where
   pub stutter-made : (s t : ℕ) → s < (system_in ours).states → t < (system_in theirs).states
       → cell_in (stutter_grid ours (chain_table (view_in ours theirs))) s t ≡ stutter_rank (view_in ours theirs) s t
   unfolding cell_in
@@ -73,8 +74,8 @@ module _ (ours theirs : List ℕ) where
 
 -- ---- both sides
 
-module _ (left right relation : List ℕ) {h k : Head} {ours theirs : List ℕ} (read : InputsRead left right relation) (gl : read_table left ≡ table.Good h)
-    (gr : read_table right ≡ table.Good k) (bytes : AreBytes relation)
+module _ (left right relation : List ℕ) {h k : Head} {ours theirs : Side} (read : InputsRead left right relation) (gl : read_table left ≡ Ok h)
+    (gr : read_table right ≡ Ok k) (bytes : AreBytes relation)
     (a : SideOf h (labels_part left) (steps_part left) (row_words relation (states_of left)) ours)
     (b : SideOf k (labels_part right) (steps_part right) (column_words (row_words relation (states_of left))) theirs) where
   abbrev v : View
@@ -111,16 +112,16 @@ module _ (left right relation : List ℕ) {h k : Head} {ours theirs : List ℕ} 
 
 -- ---- as the code comes to them
 
-module _ (left right relation : List ℕ) {h : Heads} {words columns ll ls rl rs ours theirs : List ℕ} (good : read_verdict left right relation ≡ go_on h)
+module _ (left right relation : List ℕ) {h : Heads} {words columns ll ls rl rs : List ℕ} {ours theirs : Side} (good : read_verdict left right relation ≡ Ok h)
     (bytes : AreBytes relation) (ew : words ≡ row_words relation h.left.states) (ec : columns ≡ column_words words)
     (ell : ll ≡ labels_part left) (els : ls ≡ steps_part left) (erl : rl ≡ labels_part right) (ers : rs ≡ steps_part right)
     (a : SideOf h.left ll ls words ours) (b : SideOf h.right rl rs columns theirs) {distances distances' chains chains' : List ℕ}
     (ed : distances ≡ distance_table (view_in ours theirs)) (ed' : distances' ≡ distance_table (view_in theirs ours))
     (eh : chains ≡ chain_table (view_in ours theirs)) (eh' : chains' ≡ chain_table (view_in theirs ours)) where
-  gl : read_table left ≡ table.Good h.left
+  gl : read_table left ≡ Ok h.left
   gl = (inputs_read left right relation good).0
 
-  gr : read_table right ≡ table.Good h.right
+  gr : read_table right ≡ Ok h.right
   gr = (inputs_read left right relation good).1
 
   all : InputsRead left right relation
@@ -136,13 +137,13 @@ module _ (left right relation : List ℕ) {h : Heads} {words columns ll ls rl rs
   their-side = rw (erl, ers, ec, words_are) at b
 
   -- the examination of the sides is that of the bytes, and their ranks give the file for the relation
-  pub examined-here : (as_checked (examined_in ours theirs distances distances' chains chains') ≡ as_checked (examined_verdict left right relation))
+  pub examined-here : (examined_in ours theirs distances distances' chains chains' ≡ examined_verdict left right relation)
       × (certificate_file (sizes_of left right) relation
       (ranks_in (stutter_grid ours chains) (stutter_grid theirs chains') (match_grid theirs distances) (match_grid ours distances'))
       ≡ file_for left right relation)
   unfolding file_for
   examined-here = (
-    rw (ed, ed', eh, eh') (ap as_checked (examined-is left right relation all gl gr bytes our-side their-side)),
+    rw (ed, ed', eh, eh') (examined-is left right relation all gl gr bytes our-side their-side),
     rw (ed, ed', eh, eh')
         (file-same (sizes_of left right) relation (ranks_made ours theirs) (made (view_of left right relation))
         (ranks-agree left right relation all gl gr bytes our-side their-side)),
@@ -150,7 +151,7 @@ module _ (left right relation : List ℕ) {h : Heads} {words columns ll ls rl rs
 
 -- ---- the output and the slip, as the code comes to them
 
-module _ (left right relation : List ℕ) {h : Heads} {z : Sizes} (good : read_verdict left right relation ≡ go_on h) (ez : z ≡ sizes_for h.left h.right) where
+module _ (left right relation : List ℕ) {h : Heads} {z : Sizes} (good : read_verdict left right relation ≡ Ok h) (ez : z ≡ sizes_for h.left h.right) where
   sizes-is : z ≡ sizes_of left right
   sizes-is = let i = inputs_read left right relation good in ez ∙ sizes-are left right i.0 i.1
 

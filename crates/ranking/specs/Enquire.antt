@@ -1,8 +1,8 @@
 -- The enquiry and the commit (document 02, Ask 8), for any byte strings, any slip and any output. The enquiry's answer is the maker's without 21, and its slip
 -- the lengths of the three inputs and L, or zeros on a refusal. The commit behaves as the maker; before 21 it asks for a slip with these four numbers.
-use Rattle.std.specs.Prelude.{ℕ, Bool, ◌&&◌, List, eqb, length}
+use Rattle.std.specs.Prelude.{ℕ, Bool, ◌&&◌, List, eqb, length, Ok, Err}
 use Rattle.answers.specs.Numbers.{six_numbers}
-use Rattle.answers.specs.Verdicts.{Verdict, go_on, refused_with, ◌and_then◌, passed, pass_if, room_verdict, output_after}
+use Rattle.answers.specs.Verdicts.{Verdict, ◌and_then◌, passed, pass_if, room_verdict, output_after}
 use Rattle.answers.specs.declared.Answer.{Answer}
 use Rattle.ranking.specs.declared.Slip.{Slip}
 use Rattle.ranking.specs.declared.Enquiry.{Enquiry}
@@ -35,8 +35,8 @@ enquiry_verdict = verdict_with passed
 
 -- The slip after a verdict: the one given, or zeros where it is a refusal.
 abbrev pub slip_after : Verdict (Unit {0}) → Slip → Slip
-slip_after (go_on x) slip = slip
-slip_after (refused_with answer) slip = blank_slip
+slip_after (Ok x) slip = slip
+slip_after (Err answer) slip = blank_slip
 
 -- The six numbers and the slip after a verdict.
 abbrev pub enquiry_after : (left right relation : List ℕ) → Verdict (Unit {0}) → Enquiry

@@ -6,5 +6,5 @@ use Rattle.ranking.specs.declared.Examined.{Examined}
 
 abbrev pub ranks_from : Examined → Ranks
 ranks_from e =
-    ranks_in (stutter_grid e.ours e.chains) (stutter_grid e.theirs e.chains2)
-    (match_grid e.theirs e.distances) (match_grid e.ours e.distances2)
+    ranks_in (stutter_grid e.ours e.lengths.chains) (stutter_grid e.theirs e.lengths2.chains)
+    (match_grid e.theirs e.lengths.distances) (match_grid e.ours e.lengths2.distances)

@@ -2,9 +2,8 @@
 // numbers, the slip and every byte of the output. Each reads the files and examines what was read; the makers and the commit only then fill the output.
 #![tactic(auto)]
 
-ghost use Rattle.std.specs.Prelude.{◌≡◌, length};
+ghost use Rattle.std.specs.Prelude.{◌≡◌, length, Ok};
 ghost use Rattle.answers.specs.Numbers.{six_numbers};
-ghost use Rattle.answers.specs.Verdicts.{go_on, as_checked};
 ghost use Rattle.certificates.specs.Layout.{sizes_for, sizes_of, certificate_length};
 ghost use Rattle.sides.specs.Views.{view_in};
 ghost use Rattle.lengths.specs.Cells.{distance_table, chain_table};
@@ -13,22 +12,22 @@ ghost use Rattle.files.specs.File.{certificate_file};
 ghost use Rattle.files.specs.Writer.{file_written};
 ghost use Rattle.ranking.specs.Make.{examined_verdict, file_for, make_answer, make_output};
 ghost use Rattle.ranking.specs.OnSides.{ranks_from};
-ghost use Rattle.ranking.specs.Enquire.{blank_slip, same_slip, enquiry_for, commit_answer, commit_output};
+ghost use Rattle.ranking.specs.Enquire.{blank_slip, enquiry_for, commit_answer, commit_output};
 
-use answers::{Answer, Checked};
+use answers::Answer;
 use certificates::Sizes;
-use examination::examine;
-use files::fill;
+use examination::{Lengths, examine};
+use files::{Grids, fill};
 use inputs::read;
 use lengths::{Measured, all_chains, measure};
 use rank_grids::{match_ranks, stutter_ranks};
 use relation_words::{column_words, row_words};
-use sides::{Side, side_of};
-use table_pairs::{Heads, TablesRead};
+use sides::{Side, View};
+use table_pairs::Heads;
 use tables::{Head, labels, steps};
 
 // The slip of an enquiry: the lengths in bytes of the three inputs and of their certificate.
-#[derive(Clone, Copy)]
+#[derive(Clone, Copy, PartialEq, Eq)]
 pub struct Slip {
     pub left: usize,
     pub right: usize,
@@ -43,73 +42,77 @@ pub struct Enquiry {
     pub slip: Slip,
 }
 
-// How match distances are found: by relaxing rows of lengths, the reference, or by growing sets of states (document 02, Ask 10).
-#[derive(Clone, Copy)]
-enum Finder {
-    Relaxing,
-    Sets,
+// How the lengths of one side are found. A maker is one for each way.
+trait Finder {
+    // The match distances of our steps and the lengths of our chains.
+    fn measure(view: View) -> Measured
+        ensures distances { result.distances ≡ distance_table (view_in view.entry.ours.now view.entry.theirs.now) }
+        ensures chains { result.chains ≡ chain_table (view_in view.entry.ours.now view.entry.theirs.now) };
 }
 
-// Two sides that are examined: the match distances of our steps and of theirs, the lengths of our chains and of theirs, and what the examination says.
+// By relaxing rows of lengths, the reference.
+struct Relaxing;
+
+// By growing sets of states (document 02, Ask 10).
+struct Sets;
+
+impl Finder for Relaxing {
+    fn measure(view: View) -> Measured {
+        measure(view)
+    }
+}
+
+impl Finder for Sets {
+    fn measure(view: View) -> Measured {
+        let distances = match_sets::distances(view);
+        let chains = all_chains(view, &distances);
+        Measured { distances, chains }
+    }
+}
+
+// Two sides that are examined: the lengths of our side and of theirs, and what the examination says.
 #[derive(Drop)]
 struct Examined {
     ours: Side,
     theirs: Side,
-    distances: [u8; Head::MAX_STEPS * Head::MAX_STATES],
-    distances2: [u8; Head::MAX_STEPS * Head::MAX_STATES],
-    chains: [u8; Head::MAX_STATES * Head::MAX_STATES],
-    chains2: [u8; Head::MAX_STATES * Head::MAX_STATES],
-    checked: Checked,
+    lengths: Measured,
+    lengths2: Measured,
+    checked: Result<(), Answer>,
 }
 
 // ---- the parts
 
-// The match distances of our steps and the lengths of our chains; each finder gives the same.
-fn measure_by(finder: Finder, ours: &Side, theirs: &Side) -> Measured
-    ensures distances { result.distances ≡ distance_table (view_in ours.now theirs.now) }
-    ensures chains { result.chains ≡ chain_table (view_in ours.now theirs.now) }
-{
-    match finder {
-        Finder::Relaxing => measure(ours, theirs),
-        Finder::Sets => {
-            let distances = match_sets::distances(ours, theirs);
-            let chains = all_chains(ours, theirs, &distances);
-            Measured { distances, chains }
-        }
-    }
-}
-
 // Measures and examines what was read.
-fn examine_read(
-    left: &[u8],
-    right: &[u8],
-    relation: &[u8],
-    heads: Heads,
-    finder: Finder,
-) -> Examined
-    requires { read_verdict left.now right.now relation.now ≡ go_on heads }
-    ensures checked { result.checked ≡ as_checked (examined_verdict left.now right.now relation.now) }
+fn examine_read<F: Finder>(left: &[u8], right: &[u8], relation: &[u8], heads: Heads) -> Examined
+    requires { read_verdict left.now right.now relation.now ≡ Ok heads }
+    ensures checked { result.checked ≡ examined_verdict left.now right.now relation.now }
     ensures ranks { certificate_file (sizes_of left.now right.now) relation.now (ranks_from result)
         ≡ file_for left.now right.now relation.now }
 {
     let words = row_words(relation, heads.left.states);
     let columns = column_words(&words);
-    let ours = side_of(heads.left, labels(left), steps(left), &words);
-    let theirs = side_of(heads.right, labels(right), steps(right), &columns);
-    let lengths = measure_by(finder, &ours, &theirs);
-    let lengths2 = measure_by(finder, &theirs, &ours);
-    let distances = lengths.distances;
-    let distances2 = lengths2.distances;
-    let chains = lengths.chains;
-    let chains2 = lengths2.chains;
-    let checked = examine(&ours, &theirs, &distances, &distances2, &chains, &chains2);
+    let ours = Side::of(heads.left, labels(left), steps(left), &words);
+    let theirs = Side::of(heads.right, labels(right), steps(right), &columns);
+    let view = View {
+        ours: &ours,
+        theirs: &theirs,
+    };
+    let lengths = F::measure(view);
+    let lengths2 = F::measure(view.turned());
+    let own = Lengths {
+        distances: &lengths.distances,
+        chains: &lengths.chains,
+    };
+    let other = Lengths {
+        distances: &lengths2.distances,
+        chains: &lengths2.chains,
+    };
+    let checked = examine(view, own, other);
     Examined {
         ours,
         theirs,
-        distances,
-        distances2,
-        chains,
-        chains2,
+        lengths,
+        lengths2,
         checked,
     }
 }
@@ -118,31 +121,24 @@ fn examine_read(
 fn fill_examined(examined: Examined, relation: &[u8], sizes: Sizes, output: &mut [u8])
     ensures { output.new ≡ file_written sizes relation.now (ranks_from examined) output.old }
 {
-    let ours = examined.ours;
-    let theirs = examined.theirs;
-    let distances = examined.distances;
-    let distances2 = examined.distances2;
-    let chains = examined.chains;
-    let chains2 = examined.chains2;
-    let al = stutter_ranks(&ours, &chains);
-    let ar = stutter_ranks(&theirs, &chains2);
-    let cl = match_ranks(&theirs, &distances);
-    let cr = match_ranks(&ours, &distances2);
-    fill(relation, sizes, &al, &ar, &cl, &cr, output);
+    let al = stutter_ranks(&examined.ours, &examined.lengths.chains);
+    let ar = stutter_ranks(&examined.theirs, &examined.lengths2.chains);
+    let cl = match_ranks(&examined.theirs, &examined.lengths.distances);
+    let cr = match_ranks(&examined.ours, &examined.lengths2.distances);
+    let grids = Grids {
+        al: &al,
+        ar: &ar,
+        cl: &cl,
+        cr: &cr,
+    };
+    fill(relation, sizes, grids, output);
 }
 
 // The answer where a certificate of this length is or can be made.
 fn success(length: usize) -> Answer
     ensures { result ≡ six_numbers 0 0 length }
 {
-    Answer {
-        code: 0,
-        file: 0,
-        a: length,
-        b: 0,
-        c: 0,
-        d: 0,
-    }
+    Answer::of(0, 0, length)
 }
 
 // The true slip of two tables with these headers and a relation.
@@ -174,54 +170,29 @@ fn blank_slip() -> Slip
     }
 }
 
-// Whether two slips have the same four numbers.
-fn same_slip(x: Slip, y: Slip) -> bool
-    ensures { result ≡ same_slip x y }
-{
-    if x.left != y.left {
-        return false;
-    }
-    if x.right != y.right {
-        return false;
-    }
-    if x.relation != y.relation {
-        return false;
-    }
-    x.certificate == y.certificate
-}
-
 // ---- the maker
 
 // The answer where both tables and the relation are read: 21 where the output has no room, what the examination refuses, or the length of the file.
-fn make_read(
+fn make_read<F: Finder>(
     left: &[u8],
     right: &[u8],
     relation: &[u8],
     heads: Heads,
-    finder: Finder,
     output: &mut [u8],
 ) -> Answer
-    requires { read_verdict left.now right.now relation.now ≡ go_on heads }
+    requires { read_verdict left.now right.now relation.now ≡ Ok heads }
     ensures value { result ≡ make_answer left.now right.now relation.now output.old }
     ensures written { output.new ≡ make_output left.now right.now relation.now output.old }
 {
     let sizes = Sizes::of(heads.left, heads.right);
     let length = sizes.length();
     if output.len() < length {
-        return Answer {
-            code: 21,
-            file: 3,
-            a: length,
-            b: 0,
-            c: 0,
-            d: 0,
-        };
+        return Answer::of(21, 3, length);
     }
-    let examined = examine_read(left, right, relation, heads, finder);
-    let checked = examined.checked;
-    match checked {
-        Checked::Refused(answer) => answer,
-        Checked::Passed => {
+    let examined = examine_read::<F>(left, right, relation, heads);
+    match examined.checked {
+        Err(answer) => answer,
+        Ok(()) => {
             fill_examined(examined, relation, sizes, output);
             success(length)
         }
@@ -229,20 +200,13 @@ fn make_read(
 }
 
 // The maker by a finder: for any byte strings and any output, the six numbers of its answer; the output gets the certificate, or stays as it was.
-fn make_with(
-    finder: Finder,
-    left: &[u8],
-    right: &[u8],
-    relation: &[u8],
-    output: &mut [u8],
-) -> Answer
+fn make_with<F: Finder>(left: &[u8], right: &[u8], relation: &[u8], output: &mut [u8]) -> Answer
     ensures value { result ≡ make_answer left.now right.now relation.now output.old }
     ensures written { output.new ≡ make_output left.now right.now relation.now output.old }
 {
-    let inputs = read(left, right, relation);
-    match inputs {
-        TablesRead::Refused(answer) => answer,
-        TablesRead::Good(heads) => make_read(left, right, relation, heads, finder, output),
+    match read(left, right, relation) {
+        Ok(heads) => make_read::<F>(left, right, relation, heads, output),
+        Err(refusal) => refusal,
     }
 }
 
@@ -251,7 +215,7 @@ pub fn make(left: &[u8], right: &[u8], relation: &[u8], output: &mut [u8]) -> An
     ensures value { result ≡ make_answer left.now right.now relation.now output.old }
     ensures written { output.new ≡ make_output left.now right.now relation.now output.old }
 {
-    make_with(Finder::Relaxing, left, right, relation, output)
+    make_with::<Relaxing>(left, right, relation, output)
 }
 
 // The second maker, by sets: it finds match distances in another way, and gives the same six numbers and bytes.
@@ -259,26 +223,25 @@ pub fn make_by_sets(left: &[u8], right: &[u8], relation: &[u8], output: &mut [u8
     ensures value { result ≡ make_answer left.now right.now relation.now output.old }
     ensures written { output.new ≡ make_output left.now right.now relation.now output.old }
 {
-    make_with(Finder::Sets, left, right, relation, output)
+    make_with::<Sets>(left, right, relation, output)
 }
 
 // ---- the enquiry
 
 // What the enquiry gives where both tables and the relation are read: what the examination refuses and zeros, or the length of the file and the true slip.
 fn enquire_read(left: &[u8], right: &[u8], relation: &[u8], heads: Heads) -> Enquiry
-    requires { read_verdict left.now right.now relation.now ≡ go_on heads }
+    requires { read_verdict left.now right.now relation.now ≡ Ok heads }
     ensures { result ≡ enquiry_for left.now right.now relation.now }
 {
-    let examined = examine_read(left, right, relation, heads, Finder::Relaxing);
+    let examined = examine_read::<Relaxing>(left, right, relation, heads);
     let slip = slip_for(left, right, relation, heads);
     let blank = blank_slip();
-    let checked = examined.checked;
-    match checked {
-        Checked::Refused(answer) => Enquiry {
+    match examined.checked {
+        Err(answer) => Enquiry {
             answer,
             slip: blank,
         },
-        Checked::Passed => Enquiry {
+        Ok(()) => Enquiry {
             answer: success(slip.certificate),
             slip,
         },
@@ -289,13 +252,12 @@ fn enquire_read(left: &[u8], right: &[u8], relation: &[u8], heads: Heads) -> Enq
 pub fn enquire(left: &[u8], right: &[u8], relation: &[u8]) -> Enquiry
     ensures { result ≡ enquiry_for left.now right.now relation.now }
 {
-    let inputs = read(left, right, relation);
-    match inputs {
-        TablesRead::Refused(answer) => Enquiry {
+    match read(left, right, relation) {
+        Ok(heads) => enquire_read(left, right, relation, heads),
+        Err(answer) => Enquiry {
             answer,
             slip: blank_slip(),
         },
-        TablesRead::Good(heads) => enquire_read(left, right, relation, heads),
     }
 }
 
@@ -306,23 +268,15 @@ pub fn commit(left: &[u8], right: &[u8], relation: &[u8], slip: Slip, output: &m
     ensures value { result ≡ commit_answer left.now right.now relation.now slip output.old }
     ensures written { output.new ≡ commit_output left.now right.now relation.now slip output.old }
 {
-    let inputs = read(left, right, relation);
-    match inputs {
-        TablesRead::Refused(answer) => answer,
-        TablesRead::Good(heads) => {
+    match read(left, right, relation) {
+        Ok(heads) => {
             let due = slip_for(left, right, relation, heads);
-            if same_slip(slip, due) {
-                make_read(left, right, relation, heads, Finder::Relaxing, output)
+            if slip == due {
+                make_read::<Relaxing>(left, right, relation, heads, output)
             } else {
-                Answer {
-                    code: 29,
-                    file: 2,
-                    a: 0,
-                    b: 0,
-                    c: 0,
-                    d: 0,
-                }
+                Answer::of(29, 2, 0)
             }
         }
+        Err(refusal) => refusal,
     }
 }

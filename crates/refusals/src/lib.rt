@@ -7,7 +7,7 @@ ghost use Rattle.refusals.specs.Refusals.{table_answer, certificate_answer, rela
 use answers::Answer;
 
 // Why a table is refused; the last three carry the first such step.
-#[derive(Clone, Copy)]
+#[derive(Clone, Copy, PartialEq, Eq)]
 pub enum TableRefusal {
     Short,
     Magic,
@@ -23,7 +23,7 @@ pub enum TableRefusal {
 }
 
 // Why a certificate is refused; the last carries the first such row.
-#[derive(Clone, Copy)]
+#[derive(Clone, Copy, PartialEq, Eq)]
 pub enum CertificateRefusal {
     Short,
     Magic,
@@ -34,7 +34,7 @@ pub enum CertificateRefusal {
 }
 
 // Why a relation is refused; the last carries the first such row.
-#[derive(Clone, Copy)]
+#[derive(Clone, Copy, PartialEq, Eq)]
 pub enum RelationRefusal {
     Length,
     RowBit(usize),
@@ -45,38 +45,20 @@ impl TableRefusal {
     pub fn answer(self, file: usize) -> Answer
         ensures { result ≡ table_answer self file }
     {
-        let refusal = self;
-        let mut a: usize = 0;
-        let code: usize = match refusal {
-            TableRefusal::Short => 1,
-            TableRefusal::Magic => 2,
-            TableRefusal::Version => 3,
-            TableRefusal::States => 4,
-            TableRefusal::Start => 5,
-            TableRefusal::Starts => 28,
-            TableRefusal::Steps => 6,
-            TableRefusal::Length => 7,
-            TableRefusal::StepEnd(j) => {
-                a = j;
-                8
-            }
-            TableRefusal::Doubled(again) => {
-                a = again;
-                9
-            }
-            TableRefusal::NotGreater(later) => {
-                a = later;
-                24
-            }
+        let (code, a) = match self {
+            TableRefusal::Short => (1, 0),
+            TableRefusal::Magic => (2, 0),
+            TableRefusal::Version => (3, 0),
+            TableRefusal::States => (4, 0),
+            TableRefusal::Start => (5, 0),
+            TableRefusal::Starts => (28, 0),
+            TableRefusal::Steps => (6, 0),
+            TableRefusal::Length => (7, 0),
+            TableRefusal::StepEnd(j) => (8, j),
+            TableRefusal::Doubled(again) => (9, again),
+            TableRefusal::NotGreater(later) => (24, later),
         };
-        Answer {
-            code,
-            file,
-            a,
-            b: 0,
-            c: 0,
-            d: 0,
-        }
+        Answer::of(code, file, a)
     }
 }
 
@@ -85,27 +67,15 @@ impl CertificateRefusal {
     pub fn answer(self, file: usize) -> Answer
         ensures { result ≡ certificate_answer self file }
     {
-        let refusal = self;
-        let mut a: usize = 0;
-        let code: usize = match refusal {
-            CertificateRefusal::Short => 10,
-            CertificateRefusal::Magic => 11,
-            CertificateRefusal::Version => 12,
-            CertificateRefusal::Sizes => 13,
-            CertificateRefusal::Length => 14,
-            CertificateRefusal::RowBit(s) => {
-                a = s;
-                15
-            }
+        let (code, a) = match self {
+            CertificateRefusal::Short => (10, 0),
+            CertificateRefusal::Magic => (11, 0),
+            CertificateRefusal::Version => (12, 0),
+            CertificateRefusal::Sizes => (13, 0),
+            CertificateRefusal::Length => (14, 0),
+            CertificateRefusal::RowBit(s) => (15, s),
         };
-        Answer {
-            code,
-            file,
-            a,
-            b: 0,
-            c: 0,
-            d: 0,
-        }
+        Answer::of(code, file, a)
     }
 }
 
@@ -114,22 +84,10 @@ impl RelationRefusal {
     pub fn answer(self, file: usize) -> Answer
         ensures { result ≡ relation_answer self file }
     {
-        let refusal = self;
-        let mut a: usize = 0;
-        let code: usize = match refusal {
-            RelationRefusal::Length => 20,
-            RelationRefusal::RowBit(s) => {
-                a = s;
-                15
-            }
+        let (code, a) = match self {
+            RelationRefusal::Length => (20, 0),
+            RelationRefusal::RowBit(s) => (15, s),
         };
-        Answer {
-            code,
-            file,
-            a,
-            b: 0,
-            c: 0,
-            d: 0,
-        }
+        Answer::of(code, file, a)
     }
 }

@@ -20,13 +20,10 @@ fn column_word(words: &[u64; Head::MAX_STATES], t: usize) -> Row
     ensures { result.0 ≡ column_word words.now t 64 }
 {
     let mut states = Row::empty();
-    let mut s: usize = 0;
-    while s < Head::MAX_STATES {
-        let states_of = Row(words[s]);
-        if states_of.has(t) {
+    for (s, word) in words.iter().enumerate() {
+        if Row(*word).has(t) {
             states = states.add(s);
         }
-        s += 1;
     }
     states
 }
@@ -36,11 +33,8 @@ pub fn row_words(rows: &[u8], n1: usize) -> [u64; Head::MAX_STATES]
     ensures { result ≡ row_words rows.now n1 }
 {
     let mut words: [u64; Head::MAX_STATES] = [0; Head::MAX_STATES];
-    let mut s: usize = 0;
-    while s < Head::MAX_STATES {
-        let states = row_word(rows, n1, s);
-        words[s] = states.0;
-        s += 1;
+    for (s, word) in words.iter_mut().enumerate() {
+        *word = row_word(rows, n1, s).0;
     }
     words
 }
@@ -50,11 +44,8 @@ pub fn column_words(words: &[u64; Head::MAX_STATES]) -> [u64; Head::MAX_STATES]
     ensures { result ≡ column_words words.now }
 {
     let mut columns: [u64; Head::MAX_STATES] = [0; Head::MAX_STATES];
-    let mut t: usize = 0;
-    while t < Head::MAX_STATES {
-        let states = column_word(words, t);
-        columns[t] = states.0;
-        t += 1;
+    for (t, column) in columns.iter_mut().enumerate() {
+        *column = column_word(words, t).0;
     }
     columns
 }

@@ -7,42 +7,40 @@ use mathlib.Core.List.{List, [], ◌∷◌}
 use native.Mathlib.Omega.{arith}
 use native.Mathlib.Decide.{ℕ_discrete, dec_lt}
 use lib.Dec.{T, eqb, leb, eqb→eq, leb→le, le→leb}
-use borrow.Author.Tests.{lt-ltb, eq-eqb, ne_eqb}
+use borrow.Author.Tests.{eq-eqb, ne_eqb}
 use Rattle.lists.specs.Below.{any_below}
 use Rattle.lists.proofs.BoolLaws.{and_l, and_r, and_i, not-T-false, same-T}
 use Rattle.lists.proofs.BelowLaws.{any-e, any-i, any_none}
 use Rattle.words.specs.Bits.{has_bit}
 use Rattle.words.proofs.BitLaws.{has-empty}
 use Rattle.bisimulation.specs.Systems.{System}
-use Rattle.sides.specs.Side.{cell_at, first_part, next_part, group_part, key_at, silent_from}
+use Rattle.sides.specs.declared.Side.{Side}
+use Rattle.sides.specs.Side.{link_at, group_at, key_at, silent_from}
 use Rattle.sides.specs.Side.{first_step, next_step, linked_from, steps_in, group_along, entered_by}
 use Rattle.sides.specs.Built.{NextFrom, LinkedFrom, goes_by}
 use Rattle.sides.proofs.WalkLaws.{next-later, walk-next, walk_end}
 
 -- ---- the walk, as the code makes it
 
-module _ (side : List ℕ) (key j : ℕ) where
-  abbrev walked : ℕ → ℕ
-  walked k = group_along side key (linked_from side 256 k)
-
-  pub group-hit : j < 256 → key_at side j ≡ key → walked j ≡ cell_at group_part side j
+module _ (side : Side) (key : ℕ) {left : List ℕ} where
+  pub group-hit : {j : ℕ} {js : List ℕ} → left ≡ j ∷ js → key_at side j ≡ key → group_along side key left ≡ group_at side j
   unfolding group_along
-  group-hit l e = ap (group_along side key) (walk-next side j l) ∙ rw (eq-eqb (key_at side j) key e)
+  group-hit {j} l e = rw (l, eq-eqb (key_at side j) key e)
 
-  pub group-miss : j < 256 → (key_at side j ≡ key → ⊥) → walked j ≡ walked (next_step side j)
+  pub group-miss : {j : ℕ} {js : List ℕ} → left ≡ j ∷ js → (key_at side j ≡ key → ⊥) → group_along side key left ≡ group_along side key js
   unfolding group_along
-  group-miss l n = ap (group_along side key) (walk-next side j l) ∙ rw (ne_eqb (key_at side j) key n)
+  group-miss {j} l n = rw (l, ne_eqb (key_at side j) key n)
 
-  pub group-end : 256 ≤ j → walked j ≡ 0
+  pub group-end : left ≡ [] → group_along side key left ≡ 0
   unfolding group_along
-  group-end l = ap (group_along side key) (walk_end side j l)
+  group-end l = rw l
 
 -- it gives the states entered by a key that is not 0
-pub group-start : (side : List ℕ) (s key : ℕ) → (key ≡ 0 → ⊥) → entered_by side s key ≡ group_along side key (linked_from side 256 (first_step side s))
-unfolding entered_by steps_in
+pub group-start : (side : Side) (s key : ℕ) → (key ≡ 0 → ⊥) → entered_by side s key ≡ group_along side key (steps_in side s)
+unfolding entered_by
 group-start side s key n = rw (ne_eqb key 0 n)
 
-pub silent-start : (side : List ℕ) (s key : ℕ) → key ≡ 0 → entered_by side s key ≡ silent_from side s
+pub silent-start : (side : Side) (s key : ℕ) → key ≡ 0 → entered_by side s key ≡ silent_from side s
 unfolding entered_by
 silent-start side s key e = rw (eq-eqb key 0 e)
 
@@ -69,7 +67,7 @@ any-skip m a b P h none = same-T _ _ onward back
         let l = leb→le b q.0 (and_l (leb b q.0) (P q.0) q.2) in
         any-i _ _ q.0 q.1 (and_i (leb a q.0) (P q.0) (le→leb a q.0 (omega arith)) (and_r (leb b q.0) (P q.0) q.2))
 
-module _ (S : System) (keys : ℕ → ℕ) (side : List ℕ) (first : ℕ) (few : S.steps ≤ 256) (same : (j : ℕ) → key_at side j ≡ keys j)
+module _ (S : System) (keys : ℕ → ℕ) (side : Side) (first : ℕ) (few : S.steps ≤ 256) (same : (j : ℕ) → key_at side j ≡ keys j)
     (w : LinkedFrom S keys first side) where
   -- a step that goes from s by the key does so
   goes-from : (s key u k : ℕ) → T (goes_by S keys s key u k) → S.from k ≡ s
@@ -102,8 +100,8 @@ module _ (S : System) (keys : ℕ → ℕ) (side : List ℕ) (first : ℕ) (few 
         let r = w'.reached in
         let next = w.next k (omega arith) m (rw e hs) in
         let r' = next.reached in
-        let z : cell_at next_part side k ≡ next_step side k = next-later side k refl (omega arith) in
-        let later : NextFrom S s (suc k) (next_step side k) = rw (← z) (subst (λ (x : ℕ). NextFrom S x (suc k) (cell_at next_part side k)) e next) in
+        let z : link_at side k ≡ next_step side k = next-later side k refl (omega arith) in
+        let later : NextFrom S s (suc k) (next_step side k) = rw (← z) (subst (λ (x : ℕ). NextFrom S x (suc k) (link_at side k)) e next) in
         ap (λ (x : List ℕ). has_bit (group_along side key x) u) (walk-next side k l)
         ∙ elim (ℕ_discrete (keys k) key) [
           | yes d ↦ rw (eq-eqb (key_at side k) key (same k ∙ d))
@@ -124,10 +122,10 @@ module _ (S : System) (keys : ℕ → ℕ) (side : List ℕ) (first : ℕ) (few 
   -- the states that steps with the key from s enter, of those that are linked
   pub entered-known : (s : ℕ) → s < 64 → (key u : ℕ) → u < 64
       → has_bit (entered_by side s key) u ≡ any_below S.steps (λ i. leb first i && goes_by S keys s key u i)
-  unfolding entered_by steps_in first_step
+  unfolding entered_by steps_in
   entered-known s hs key u hu = elim (ℕ_discrete key 0) [
     | yes e ↦ rw (e) (w.silent s hs u hu)
-    | no e ↦ rw (ne_eqb key 0 e, lt-ltb s 64 hs) (along 256 s first (cell_at first_part side s) key u (omega arith) hs hu (omega arith) e (w.first s hs))
+    | no e ↦ rw (ne_eqb key 0 e) (along 256 s first (first_step side s) key u (omega arith) hs hu (omega arith) e (w.first s hs))
   ]
 
   group-small : (key : ℕ) (js : List ℕ) → group_along side key js < 2 ^ 64

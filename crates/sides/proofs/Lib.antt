@@ -1,4 +1,4 @@
--- The laws of sides: stores, how a side is built, the walk along its links, and the one law that two sides hold the view of the bytes.
+-- The laws of sides: how a side is built, the walk along its links, and the one law that two sides hold the view of the bytes.
 pub mod StoreLaws
 pub mod BuildLaws
 pub mod WalkLaws

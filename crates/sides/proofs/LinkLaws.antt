@@ -1,23 +1,27 @@
 -- Laws of linking the steps of a side, from the last to the first. Assumes nothing.
-use Prim.Native.Nat.{ℕ, suc, ◌-◌, ◌^◌, ◌≤◌, ◌<◌}
-use mathlib.Core.Path.{◌≡◌, sym, ap, ap₂, ◌∙◌, subst}
+use Prim.Native.Nat.{ℕ, suc, ◌^◌, ◌≤◌, ◌<◌}
+use mathlib.Core.Path.{◌≡◌, refl, sym, ap, ap₂, ◌∙◌, subst}
 use mathlib.Core.Logic.{⊎_elim}
 use mathlib.Core.Bool.{Bool, ◌&&◌, ◌||◌, and-false}
 use mathlib.Core.List.{List}
 use native.Mathlib.Omega.{arith}
 use native.Mathlib.Decide.{ℕ_discrete, dec_lt}
 use lib.Dec.{T, eqb, leb, eqb→eq, leb→le, le→leb}
-use borrow.Author.Tests.{lt-ltb, le-ltb, eq-eqb, ne_eqb}
+use lib.ListN.{length-set}
+use lib.Seq.{get_or-set_same, get_or-set_other}
+use borrow.Author.Tests.{le-ltb, eq-eqb, ne_eqb}
+use Rattle.std.proofs.lemmas.List.{get_or_past}
 use Rattle.lists.specs.Below.{any_below}
 use Rattle.lists.proofs.BoolLaws.{and_l, and_r, and_i, or-e, or_l, or_r, not-T-false, same-T, eq→eqb}
 use Rattle.lists.proofs.BelowLaws.{any-e, any-i}
 use Rattle.words.specs.Bits.{has_bit, add_bit}
 use Rattle.words.proofs.BitLaws.{has-add, has-add-below, has-empty, add-word}
 use Rattle.bisimulation.specs.Systems.{System}
-use Rattle.sides.specs.Side.{Region, cell_at, silent_part, first_part, next_part, from_part, to_part, key_part, group_part, system_in, key_at, first_step, entered_by}
-use Rattle.sides.specs.Built.{NextFrom, goes_by}
-use Rattle.sides.specs.Building.{put_at, put_entered, apart, Kept, not_links, Unlinked, LinksIn}
-use Rattle.sides.proofs.StoreLaws.{cell-past, put_same, put_other, put-apart, kept-none, kept_more, filled}
+use Rattle.tables.specs.declared.Head.{Head}
+use Rattle.sides.specs.declared.Side.{Side}
+use Rattle.sides.specs.Side.{system_in, key_at, silent_from, first_step, link_at, group_at, entered_by}
+use Rattle.sides.specs.Built.{NextFrom, LinkedFrom, Roomy, TableIn, goes_by}
+use Rattle.sides.specs.Building.{Unlinked, put_linked, relinked}
 use Rattle.sides.proofs.GroupLaws.{entered-known, entered-small}
 
 module _ (m : ℕ) (P : ℕ → Bool) where
@@ -65,231 +69,223 @@ add-below x t u h = elim (dec_lt t 64) [
   | no l ↦ has-add x t u ∙ rw (le-ltb t 64 (omega arith), ne_eqb u t (λ z. omega arith))
 ]
 
-few : (l : List ℕ) → (system_in l).steps ≤ 256
-few l = omega arith
+few : (side : Side) → (system_in side).steps ≤ 256
+few side = omega arith
 
-pub links-start : {l : List ℕ} {m : ℕ} → m ≡ (system_in l).steps → Unlinked l → LinksIn l m l
-links-start {l} {m} e w =
-    let f : m ≤ 256 = rw e (few l) in
-    record {
-      kept = kept-none w.room;
-      linked = record {
-        first = λ s h. rw (filled first_part w.no-first s (λ z. absurd (omega arith)))
-            (record { reached = f; none = λ i a b c d. absurd (omega (arith, c, a, e)); here = λ b. absurd (omega arith) });
-        next = λ j a b c. absurd (omega (arith, a, b, e));
-        next-none = λ j a b c. absurd (omega (arith, a, b, e));
-        silent = λ s h u k. ap (λ (x : ℕ). has_bit x u) (w.no-silent.zeros-are s) ∙ has-empty u ∙ sym (not-T-false _ (none_from s u));
-        group = λ j a b c d u k. absurd (omega (arith, a, b, e));
-        silent< = λ s. rw (w.no-silent.zeros-are s) (omega arith);
-        group< = λ j. rw (w.no-group.zeros-are j) (omega arith);
-      };
-    }
-  where
-    none_from : (s u : ℕ) → T (any_below (system_in l).steps (λ k. leb m k && goes_by (system_in l) (key_at l) s 0 u k)) → ⊥
-    none_from s u b =
-        let q = any-e _ _ b in
-        let a : m ≤ q.0 = leb→le _ _ (and_l (leb m q.0) _ q.2) in
-        omega (arith, a, q.1, e)
-
-module _ {before l : List ℕ} {j s key word later : ℕ} (w : LinksIn before (suc j) l) (h : j < (system_in before).steps)
-    (es : s ≡ (system_in before).from j) (ek : key ≡ key_at before j) (ew : word ≡ add_bit (entered_by l s key) ((system_in before).to j))
-    (el : later ≡ first_step l s) where
+module _ {side : Side} {j : ℕ} (w : LinkedFrom (system_in side) (key_at side) (suc j) side) (h : j < (system_in side).steps) where
   abbrev S : System
-  S = system_in before
+  S = system_in side
 
   abbrev keys : ℕ → ℕ
-  keys = key_at before
+  keys = key_at side
 
-  abbrev l1 : List ℕ
-  l1 = put_entered l s j key word
+  abbrev s : ℕ
+  s = S.from j
 
-  abbrev l2 : List ℕ
-  l2 = put_at first_part l1 s j
+  abbrev key : ℕ
+  key = keys j
 
-  abbrev pub relinked : List ℕ
-  relinked = put_at next_part l2 j later
+  abbrev word : ℕ
+  word = add_bit (entered_by side s key) (S.to j)
+
+  abbrev after : Side
+  after = put_linked side s j key word
 
   hj : j < 256
-  hj = let f = few before in omega arith
+  hj = let f = few side in omega arith
 
   -- ---- the word of the states that are entered
 
-  same_keys : (i : ℕ) → key_at l i ≡ keys i
-  same_keys = w.kept.same key_part (tt, tt, tt, tt)
-
   word-new : s < 64 → (u : ℕ) → u < 64 → has_bit word u ≡ any_below S.steps (λ k. leb j k && goes_by S keys s key u k)
   word-new hs u hu =
-      ap (λ (y : ℕ). has_bit y u) ew
-      ∙ add-below (entered_by l s key) (S.to j) u hu
-      ∙ ap₂ ◌||◌ (eqb_swap u (S.to j)) (entered-known S keys l (suc j) (few before) same_keys w.linked s hs key u hu)
-      ∙ sym (any-from S.steps (goes_by S keys s key u) j h ∙ rw (eq-eqb (S.from j) s (sym es), eq-eqb key (keys j) ek))
+      add-below (entered_by side s key) (S.to j) u hu
+      ∙ ap₂ ◌||◌ (eqb_swap u (S.to j)) (entered-known S keys side (suc j) (few side) (λ i. refl) w s hs key u hu)
+      ∙ sym (any-from S.steps (goes_by S keys s key u) j h ∙ rw (eq-eqb s s refl, eq-eqb key key refl))
 
   word_small : word < 2 ^ 64
-  word_small = rw ew (add-word (entered_by l s key) (S.to j) (entered-small S keys l (suc j) (few before) same_keys w.linked s key))
+  word_small = add-word (entered_by side s key) (S.to j) (entered-small S keys side (suc j) (few side) (λ i. refl) w s key)
 
   -- ---- where it is stored
 
-  of-silent : key ≡ 0 → l1 ≡ put_at silent_part l s word
-  unfolding put_entered
-  of-silent e = rw (eq-eqb key 0 e)
-
-  of-keyed : (key ≡ 0 → ⊥) → l1 ≡ put_at group_part l j word
-  unfolding put_entered
-  of-keyed n = rw (ne_eqb key 0 n)
-
-  k1 : Kept not_links before l1
-  k1 = elim (ℕ_discrete key 0) [
-    | yes e ↦ subst (Kept not_links before) (sym (of-silent e)) (kept_more silent_part l s word (λ q o. o.0) w.kept)
-    | no n ↦ subst (Kept not_links before) (sym (of-keyed n)) (kept_more group_part l j word (λ q o. o.1) w.kept)
-  ]
-
-  k2 : Kept not_links before l2
-  k2 = kept_more first_part l1 s j (λ q o. o.2) k1
-
-  stored-apart : (q : Region) → T (apart silent_part q) → T (apart group_part q) → (x : ℕ) → cell_at q l1 x ≡ cell_at q l x
-  stored-apart q a b x = elim (ℕ_discrete key 0) [
-    | yes e ↦ ap (λ (k : List ℕ). cell_at q k x) (of-silent e) ∙ put-apart silent_part l s word q a x
-    | no n ↦ ap (λ (k : List ℕ). cell_at q k x) (of-keyed n) ∙ put-apart group_part l j word q b x
-  ]
-
-  silent-at : (x : ℕ) → cell_at silent_part relinked x ≡ cell_at silent_part l1 x
-  silent-at x = put-apart next_part l2 j later silent_part tt x ∙ put-apart first_part l1 s j silent_part tt x
-
-  group_at : (x : ℕ) → cell_at group_part relinked x ≡ cell_at group_part l1 x
-  group_at x = put-apart next_part l2 j later group_part tt x ∙ put-apart first_part l1 s j group_part tt x
-
-  first-at : (x : ℕ) → cell_at first_part relinked x ≡ cell_at first_part l2 x
-  first-at x = put-apart next_part l2 j later first_part tt x
-
-  next-at : (x : ℕ) → (x ≡ j → ⊥) → cell_at next_part relinked x ≡ cell_at next_part l x
-  next-at x d = put_other next_part l2 j later x d ∙ put-apart first_part l1 s j next_part tt x ∙ stored-apart next_part tt tt x
-
   -- the word at s of a silent step, and as before otherwise
-  silent-here : key ≡ 0 → s < 64 → cell_at silent_part relinked s ≡ word
-  silent-here e hs =
-      let r = w.kept.room in
-      silent-at s ∙ ap (λ (k : List ℕ). cell_at silent_part k s) (of-silent e) ∙ put_same silent_part l s word hs (omega arith)
+  silent-here : key ≡ 0 → s < 64 → silent_from after s ≡ word
+  silent-here e hs = rw (eq-eqb key 0 e) (get_or-set_same side.silent s word 0 (rw w.roomy.silent-room hs))
 
-  silent-other : key ≡ 0 → (x : ℕ) → (x ≡ s → ⊥) → cell_at silent_part relinked x ≡ cell_at silent_part l x
-  silent-other e x d = silent-at x ∙ ap (λ (k : List ℕ). cell_at silent_part k x) (of-silent e) ∙ put_other silent_part l s word x d
+  silent-other : key ≡ 0 → (x : ℕ) → (x ≡ s → ⊥) → silent_from after x ≡ silent_from side x
+  silent-other e x d = rw (eq-eqb key 0 e) (get_or-set_other side.silent s x word 0 d)
 
-  silent-kept : (key ≡ 0 → ⊥) → (x : ℕ) → cell_at silent_part relinked x ≡ cell_at silent_part l x
-  silent-kept n x = silent-at x ∙ ap (λ (k : List ℕ). cell_at silent_part k x) (of-keyed n) ∙ put-apart group_part l j word silent_part tt x
+  silent-kept : (key ≡ 0 → ⊥) → (x : ℕ) → silent_from after x ≡ silent_from side x
+  silent-kept n x = rw (ne_eqb key 0 n)
 
   -- the word at j of any other, and as before otherwise
-  group-here : (key ≡ 0 → ⊥) → cell_at group_part relinked j ≡ word
-  group-here n =
-      let r = w.kept.room in
-      group_at j ∙ ap (λ (k : List ℕ). cell_at group_part k j) (of-keyed n) ∙ put_same group_part l j word hj (omega arith)
+  group-here : (key ≡ 0 → ⊥) → group_at after j ≡ word
+  group-here n = rw (ne_eqb key 0 n) (get_or-set_same side.group j word 0 (rw w.roomy.group-room hj))
 
-  group-other : (x : ℕ) → (x ≡ j → ⊥) → cell_at group_part relinked x ≡ cell_at group_part l x
+  group-silent : key ≡ 0 → (x : ℕ) → group_at after x ≡ group_at side x
+  group-silent e x = rw (eq-eqb key 0 e)
+
+  group-other : (x : ℕ) → (x ≡ j → ⊥) → group_at after x ≡ group_at side x
   group-other x d = elim (ℕ_discrete key 0) [
-    | yes e ↦ group_at x ∙ ap (λ (k : List ℕ). cell_at group_part k x) (of-silent e) ∙ put-apart silent_part l s word group_part tt x
-    | no n ↦ group_at x ∙ ap (λ (k : List ℕ). cell_at group_part k x) (of-keyed n) ∙ put_other group_part l j word x d
+    | yes e ↦ group-silent e x
+    | no n ↦ rw (ne_eqb key 0 n) (get_or-set_other side.group j x word 0 d)
   ]
 
-  -- the link of the step itself
-  next_here : cell_at next_part relinked j ≡ first_step l s
-  next_here = let r = k2.room in put_same next_part l2 j later hj (omega arith) ∙ el
+  -- the link of the step itself, and that of the state that it leaves
+  next_here : link_at after j ≡ first_step side s
+  next_here = get_or-set_same side.next j (first_step side s) 0 (rw w.roomy.next-room hj)
 
-  first_below : s < 64 → first_step l s ≡ cell_at first_part l s
-  unfolding first_step
-  first_below k = rw (lt-ltb s 64 k)
+  next-other : (x : ℕ) → (x ≡ j → ⊥) → link_at after x ≡ link_at side x
+  next-other x d = get_or-set_other side.next j x (first_step side s) 0 d
 
-  first_past : 64 ≤ s → first_step l s ≡ 256
-  unfolding first_step
-  first_past k = rw (le-ltb s 64 k)
+  first-here : s < 64 → first_step after s ≡ j
+  first-here hs = get_or-set_same side.first s j 256 (rw w.roomy.first-room hs)
+
+  first-other : (x : ℕ) → (x ≡ s → ⊥) → first_step after x ≡ first_step side x
+  first-other x d = get_or-set_other side.first s x j 256 d
+
+  roomy-after : Roomy after
+  roomy-after =
+      let r = w.roomy in
+      record {
+        silent-room = elim (ℕ_discrete key 0) [
+          | yes e ↦ rw (eq-eqb key 0 e) (length-set side.silent s word ∙ r.silent-room)
+          | no n ↦ rw (ne_eqb key 0 n) r.silent-room
+        ];
+        first-room = length-set side.first s j ∙ r.first-room;
+        next-room = length-set side.next j (first_step side s) ∙ r.next-room;
+        group-room = elim (ℕ_discrete key 0) [
+          | yes e ↦ rw (eq-eqb key 0 e) r.group-room
+          | no n ↦ rw (ne_eqb key 0 n) (length-set side.group j word ∙ r.group-room)
+        ];
+      }
 
   -- ---- what is known afterwards
 
   silent-more : (x : ℕ) → x < 64 → (u : ℕ) → u < 64
-      → has_bit (cell_at silent_part relinked x) u ≡ any_below S.steps (λ k. leb j k && goes_by S keys x 0 u k)
+      → has_bit (silent_from after x) u ≡ any_below S.steps (λ k. leb j k && goes_by S keys x 0 u k)
   silent-more x hx u hu = elim (ℕ_discrete key 0) [
     | yes e ↦ elim (ℕ_discrete x s) [
-      | yes q ↦ ap (λ (i : ℕ). has_bit (cell_at silent_part relinked i) u) q ∙ ap (λ (y : ℕ). has_bit y u) (silent-here e (omega arith))
+      | yes q ↦ ap (λ (i : ℕ). has_bit (silent_from after i) u) q ∙ ap (λ (y : ℕ). has_bit y u) (silent-here e (omega arith))
           ∙ word-new (omega arith) u hu
           ∙ ap (λ (y : ℕ). any_below S.steps (λ k. leb j k && goes_by S keys s y u k)) e
           ∙ sym (ap (λ (i : ℕ). any_below S.steps (λ k. leb j k && goes_by S keys i 0 u k)) q)
-      | no q ↦ ap (λ (y : ℕ). has_bit y u) (silent-other e x q) ∙ w.linked.silent x hx u hu
-          ∙ sym (any-from S.steps (goes_by S keys x 0 u) j h ∙ rw (ne_eqb (S.from j) x (λ z. q (sym z ∙ sym es))))
+      | no q ↦ ap (λ (y : ℕ). has_bit y u) (silent-other e x q) ∙ w.silent x hx u hu
+          ∙ sym (any-from S.steps (goes_by S keys x 0 u) j h ∙ rw (ne_eqb s x (λ z. q (sym z))))
     ]
-    | no n ↦ ap (λ (y : ℕ). has_bit y u) (silent-kept n x) ∙ w.linked.silent x hx u hu
-        ∙ sym (any-from S.steps (goes_by S keys x 0 u) j h ∙ rw (ne_eqb 0 (keys j) (λ z. n (ek ∙ sym z)), and-false (eqb (S.from j) x)))
+    | no n ↦ ap (λ (y : ℕ). has_bit y u) (silent-kept n x) ∙ w.silent x hx u hu
+        ∙ sym (any-from S.steps (goes_by S keys x 0 u) j h ∙ rw (ne_eqb 0 key (λ z. n (sym z)), and-false (eqb s x)))
   ]
 
   group-more : (i : ℕ) → j ≤ i → i < S.steps → S.from i < 64 → (keys i ≡ 0 → ⊥) → (u : ℕ) → u < 64
-      → has_bit (cell_at group_part relinked i) u ≡ any_below S.steps (λ k. leb i k && goes_by S keys (S.from i) (keys i) u k)
+      → has_bit (group_at after i) u ≡ any_below S.steps (λ k. leb i k && goes_by S keys (S.from i) (keys i) u k)
   group-more i a b c d u hu = elim (ℕ_discrete i j) [
     | yes q ↦ subst
-        (λ (x : ℕ). has_bit (cell_at group_part relinked x) u ≡ any_below S.steps (λ k. leb x k && goes_by S keys (S.from x) (keys x) u k)) (sym q)
-        (let nz : key ≡ 0 → ⊥ = λ z. d (ap keys q ∙ sym ek ∙ z) in
-        let hs : s < 64 = rw es (subst (λ (x : ℕ). S.from x < 64) q c) in
-        ap (λ (y : ℕ). has_bit y u) (group-here nz) ∙ word-new hs u hu
-        ∙ ap (λ (x : ℕ). any_below S.steps (λ k. leb j k && goes_by S keys x key u k)) es
-        ∙ ap (λ (x : ℕ). any_below S.steps (λ k. leb j k && goes_by S keys (S.from j) x u k)) ek)
-    | no q ↦ ap (λ (y : ℕ). has_bit y u) (group-other i q) ∙ w.linked.group i (omega arith) b c d u hu
+        (λ (x : ℕ). has_bit (group_at after x) u ≡ any_below S.steps (λ k. leb x k && goes_by S keys (S.from x) (keys x) u k)) (sym q)
+        (let nz : key ≡ 0 → ⊥ = λ z. d (ap keys q ∙ z) in
+        let hs : s < 64 = subst (λ (x : ℕ). S.from x < 64) q c in
+        ap (λ (y : ℕ). has_bit y u) (group-here nz) ∙ word-new hs u hu)
+    | no q ↦ ap (λ (y : ℕ). has_bit y u) (group-other i q) ∙ w.group i (omega arith) b c d u hu
   ]
 
-  silent-small : (x : ℕ) → cell_at silent_part relinked x < 2 ^ 64
+  silent-small : (x : ℕ) → silent_from after x < 2 ^ 64
   silent-small x = elim (dec_lt x 64) [
     | yes k ↦ elim (ℕ_discrete key 0) [
       | yes e ↦ elim (ℕ_discrete x s) [
         | yes q ↦ rw (q, silent-here e (omega arith)) word_small
-        | no q ↦ rw (silent-other e x q) (w.linked.silent< x)
+        | no q ↦ rw (silent-other e x q) (w.silent< x)
       ]
-      | no n ↦ rw (silent-kept n x) (w.linked.silent< x)
+      | no n ↦ rw (silent-kept n x) (w.silent< x)
     ]
-    | no k ↦ rw (cell-past silent_part relinked x (omega arith)) (omega arith)
+    | no k ↦ rw (get_or_past after.silent x 0 (rw roomy-after.silent-room (omega arith))) (omega arith)
   ]
 
-  group-small : (x : ℕ) → cell_at group_part relinked x < 2 ^ 64
+  group-small : (x : ℕ) → group_at after x < 2 ^ 64
   group-small x = elim (ℕ_discrete x j) [
     | yes q ↦ elim (ℕ_discrete key 0) [
-      | yes e ↦ rw (group_at x ∙ ap (λ (k : List ℕ). cell_at group_part k x) (of-silent e) ∙ put-apart silent_part l s word group_part tt x) (w.linked.group< x)
+      | yes e ↦ rw (group-silent e x) (w.group< x)
       | no n ↦ rw (q, group-here n) word_small
     ]
-    | no q ↦ rw (group-other x q) (w.linked.group< x)
+    | no q ↦ rw (group-other x q) (w.group< x)
   ]
 
   -- one step more is linked
-  pub links-more : LinksIn before j relinked
+  links-more : LinkedFrom S keys j after
   links-more =
-      let r1 = k1.room in
       record {
-        kept = kept_more next_part l2 j later (λ q o. o.3) k2;
-        linked = record {
-          first = λ x k. elim (ℕ_discrete x s) [
-            | yes q ↦ subst (λ (i : ℕ). NextFrom S i j (cell_at first_part relinked i)) (sym q)
-                (rw (first-at s, put_same first_part l1 s j (omega arith) (omega arith))
-                (record { reached = omega arith; none = λ i a b c d. omega arith; here = λ _. (h, sym es) }))
-            | no q ↦ rw (first-at x, put_other first_part l1 s j x q, stored-apart first_part tt tt x)
-                (earlier (λ z. q (sym z ∙ sym es)) (w.linked.first x k))
-          ];
-          next = λ i a k b. elim (ℕ_discrete i j) [
-            | yes q ↦ let c : S.from j < 64 = subst (λ (x : ℕ). S.from x < 64) q b in
-                let hs : s < 64 = rw es c in
-                subst (λ (x : ℕ). NextFrom S (S.from x) (suc x) (cell_at next_part relinked x)) (sym q)
-                (rw (next_here, first_below hs, ← es) (w.linked.first s hs))
-            | no q ↦ rw (next-at i q) (w.linked.next i (omega arith) k b)
-          ];
-          next-none = λ i a k b. elim (ℕ_discrete i j) [
-            | yes q ↦ let c : 64 ≤ S.from j = subst (λ (x : ℕ). 64 ≤ S.from x) q b in ap (cell_at next_part relinked) q ∙ next_here ∙ first_past (rw es c)
-            | no q ↦ next-at i q ∙ w.linked.next-none i (omega arith) k b
-          ];
-          silent = silent-more;
-          group = group-more;
-          silent< = silent-small;
-          group< = group-small;
-        };
+        roomy = roomy-after;
+        first = λ x k. elim (ℕ_discrete x s) [
+          | yes q ↦ subst (λ (i : ℕ). NextFrom S i j (first_step after i)) (sym q)
+              (rw (first-here (omega arith)) (record { reached = omega arith; none = λ i a b c d. omega arith; here = λ _. (h, refl) }))
+          | no q ↦ rw (first-other x q) (earlier (λ z. q (sym z)) (w.first x k))
+        ];
+        next = λ i a k b. elim (ℕ_discrete i j) [
+          | yes q ↦ let hs : s < 64 = subst (λ (x : ℕ). S.from x < 64) q b in
+              subst (λ (x : ℕ). NextFrom S (S.from x) (suc x) (link_at after x)) (sym q) (rw next_here (w.first s hs))
+          | no q ↦ rw (next-other i q) (w.next i (omega arith) k b)
+        ];
+        next-none = λ i a k b. elim (ℕ_discrete i j) [
+          | yes q ↦ let hs : 64 ≤ s = subst (λ (x : ℕ). 64 ≤ S.from x) q b in
+              ap (link_at after) q ∙ next_here ∙ get_or_past side.first s 256 (rw w.roomy.first-room hs)
+          | no q ↦ next-other i q ∙ w.next-none i (omega arith) k b
+        ];
+        silent = silent-more;
+        group = group-more;
+        silent< = silent-small;
+        group< = group-small;
       }
 
--- as the code does it: the side has the ends and the keys that it began with
-pub links-next : {before l l1 l2 l3 : List ℕ} {i j s x key word later : ℕ} → LinksIn before i l → 0 < i → i ≤ (system_in before).steps → j ≡ i - 1
-    → s ≡ cell_at from_part l j → x ≡ cell_at to_part l j → key ≡ key_at l j → word ≡ add_bit (entered_by l s key) x → later ≡ first_step l s
-    → l1 ≡ put_entered l s j key word → l2 ≡ put_at first_part l1 s j → l3 ≡ put_at next_part l2 j later → LinksIn before j l3
-links-next {before} {l} {l1} {l2} {l3} {i} {j} {s} {x} {key} {word} {later} w h b d es ex ek ew el p q r =
-    let k : i ≡ suc j = omega arith in
-    let v : LinksIn before (suc j) l = rw k at w in
-    let kept = w.kept.same in
-    rw (r, q, p) (links-more v (omega arith) (es ∙ kept from_part (tt, tt, tt, tt) j) (ek ∙ kept key_part (tt, tt, tt, tt) j)
-    (ew ∙ ap (add_bit (entered_by l s key)) (ex ∙ kept to_part (tt, tt, tt, tt) j)) el)
+-- ---- as the code does it
+
+-- The table is there, and the steps numbered a or more are linked.
+pub record LinksIn (h : Head) (labels steps words : List ℕ) (a : ℕ) (side : Side) : Type 0 where
+  pub table : TableIn h labels steps words side
+  pub linked : LinkedFrom (system_in side) (key_at side) a side
+  pub below : a ≤ (system_in side).steps
+
+-- before the first of them no step is linked
+pub links-start : {h : Head} {labels steps words : List ℕ} {side : Side} → Unlinked h labels steps words side
+    → LinksIn h labels steps words (system_in side).steps side
+links-start {side = side} w =
+    let f = few side in
+    record {
+      table = w.table;
+      below = omega arith;
+      linked = record {
+        roomy = w.roomy;
+        first = λ s h. rw (w.no-first s) (record { reached = f; none = λ i a b c d. absurd (omega arith); here = λ b. absurd (omega arith) });
+        next = λ j a b c. absurd (omega arith);
+        next-none = λ j a b c. absurd (omega arith);
+        silent = λ s h u k. ap (λ (x : ℕ). has_bit x u) (w.no-silent s) ∙ has-empty u ∙ sym (not-T-false _ (none_from s u));
+        group = λ j a b c d u k. absurd (omega arith);
+        silent< = λ s. rw (w.no-silent s) (omega arith);
+        group< = λ j. rw (w.no-group j) (omega arith);
+      };
+    }
+  where
+    none_from : (s u : ℕ) → T (any_below (system_in side).steps (λ k. leb (system_in side).steps k && goes_by (system_in side) (key_at side) s 0 u k)) → ⊥
+    none_from s u b =
+        let q = any-e _ _ b in
+        let a : (system_in side).steps ≤ q.0 = leb→le _ _ (and_l (leb (system_in side).steps q.0) _ q.2) in
+        omega (arith, a, q.1)
+
+pub links-next : {h : Head} {labels steps words : List ℕ} {side : Side} {j : ℕ} → LinksIn h labels steps words (suc j) side
+    → LinksIn h labels steps words j (relinked side j)
+unfolding relinked
+links-next w =
+    let t = w.table in
+    let l = w.below in
+    record {
+      table = record {
+        states-is = t.states-is;
+        steps-is = t.steps-is;
+        initial-is = t.initial-is;
+        word-is = t.word-is;
+        related-is = t.related-is;
+        labels-are = t.labels-are;
+        from-are = t.from-are;
+        to-are = t.to-are;
+        keys-are = t.keys-are;
+      };
+      linked = links-more w.linked l;
+      below = omega arith;
+    }

@@ -8,7 +8,8 @@ use mathlib.Core.List.{List, [], ◌∷◌}
 use native.Mathlib.Omega.{arith}
 use native.Mathlib.Decide.{ℕ_discrete, dec_lt}
 use lib.Dec.{eqb, eqb→eq}
-use borrow.Author.Tests.{lt-ltb, le-ltb, le-leb, eq-eqb, ne_eqb}
+use borrow.Author.Tests.{le-leb, eq-eqb, ne_eqb}
+use Rattle.std.proofs.lemmas.List.{get_or_past}
 use Rattle.lists.specs.Below.{any_below}
 use Rattle.lists.proofs.BoolLaws.{and_l, and_r, not-T-false}
 use Rattle.lists.proofs.BelowLaws.{any_none, any-cong}
@@ -16,13 +17,13 @@ use Rattle.lists.proofs.JoinLaws.{join_from, from_start, from_next, from-none, j
 use Rattle.words.specs.Bits.{has_bit}
 use Rattle.words.proofs.BitLaws.{has-empty, has-high}
 use Rattle.bisimulation.specs.Systems.{System, steps_from}
-use Rattle.sides.specs.Side.{cell_at, silent_part, first_part, next_part, system_in, key_at, first_step, next_step, linked_from, steps_in, group_along, entered_by}
+use Rattle.sides.specs.declared.Side.{Side}
+use Rattle.sides.specs.Side.{system_in, key_at, first_step, link_at, next_step, linked_from, steps_in, group_along, entered_by}
 use Rattle.sides.specs.Built.{NextFrom, LinkedFrom, Linked, goes_by}
-use Rattle.sides.proofs.StoreLaws.{cell-past}
 use Rattle.sides.proofs.WalkLaws.{next-later, walk-next, walk_end}
 use Rattle.sides.proofs.GroupLaws.{entered-known, entered-small}
 
-module _ (side : List ℕ) (from< : (j : ℕ) → j < (system_in side).steps → (system_in side).from j < 64)
+module _ (side : Side) (from< : (j : ℕ) → j < (system_in side).steps → (system_in side).from j < 64)
     (to< : (j : ℕ) → j < (system_in side).steps → (system_in side).to j < 64)
     (w : LinkedFrom (system_in side) (key_at side) 0 side) where
   abbrev S : System
@@ -50,8 +51,8 @@ module _ (side : List ℕ) (from< : (j : ℕ) → j < (system_in side).steps →
         let m = q.0 in
         let next = w.next k (omega arith) m (rw q.1 hs) in
         let r = next.reached in
-        let e : cell_at next_part side k ≡ next_step side k = next-later side k refl (omega arith) in
-        let later : NextFrom S s (suc k) (next_step side k) = rw (← e) (subst (λ (x : ℕ). NextFrom S x (suc k) (cell_at next_part side k)) q.1 next) in
+        let e : link_at side k ≡ next_step side k = next-later side k refl (omega arith) in
+        let later : NextFrom S s (suc k) (next_step side k) = rw (← e) (subst (λ (x : ℕ). NextFrom S x (suc k) (link_at side k)) q.1 next) in
         walk-next side k l
         ∙ ap (λ (x : List ℕ). k ∷ x) (along n s (suc k) (next_step side k) (omega (arith, r, e, b, l)) hs later)
         ∙ sym (from_next a k S.steps (here s) w'.reached m (λ i c d. rw (ne_eqb (S.from i) s (λ z. w'.none i c d (omega arith) z)))
@@ -59,11 +60,15 @@ module _ (side : List ℕ) (from< : (j : ℕ) → j < (system_in side).steps →
     | no l ↦ ended s a k (omega arith) w'
   ]
 
+  -- a state of 64 or more has no first step
+  first-past : (s : ℕ) → 64 ≤ s → first_step side s ≡ 256
+  first-past s h = get_or_past side.first s 256 (rw w.roomy.first-room h)
+
   steps-are : (s : ℕ) → steps_in side s ≡ steps_from S s
-  unfolding steps_in steps_from first_step
+  unfolding steps_in steps_from
   steps-are s = elim (dec_lt s 64) [
-    | yes h ↦ rw (lt-ltb s 64 h) (along 256 s 0 (cell_at first_part side s) (omega arith) h (w.first s h) ∙ sym (from_start S.steps (here s)))
-    | no h ↦ rw (le-ltb s 64 (omega arith)) (walk_end side 256 (omega arith)
+    | yes h ↦ along 256 s 0 (first_step side s) (omega arith) h (w.first s h) ∙ sym (from_start S.steps (here s))
+    | no h ↦ rw (first-past s (omega arith)) (walk_end side 256 (omega arith)
         ∙ sym (join-none S.steps (here s) (λ j l. rw (ne_eqb (S.from j) s (λ e. let f = from< j l in omega arith)))))
   ]
 
@@ -78,10 +83,10 @@ module _ (side : List ℕ) (from< : (j : ℕ) → j < (system_in side).steps →
 
   -- a state of 64 or more has no step
   past-empty : (s key : ℕ) → 64 ≤ s → entered_by side s key ≡ 0
-  unfolding entered_by steps_in first_step group_along
+  unfolding entered_by steps_in group_along
   past-empty s key h = elim (ℕ_discrete key 0) [
-    | yes e ↦ rw (eq-eqb key 0 e) (cell-past silent_part side s h)
-    | no e ↦ rw (ne_eqb key 0 e, le-ltb s 64 h, walk_end side 256 (omega arith))
+    | yes e ↦ rw (eq-eqb key 0 e) (get_or_past side.silent s 0 (rw w.roomy.silent-room h))
+    | no e ↦ rw (ne_eqb key 0 e, first-past s h, walk_end side 256 (omega arith))
   ]
 
   entered-are : (s key u : ℕ) → has_bit (entered_by side s key) u ≡ any_below S.steps (goes_by S (key_at side) s key u)

@@ -1,4 +1,5 @@
 -- Laws of the side of a table without keys: its silent steps are all its steps. Assumes nothing.
+use Rattle.std.specs.Prelude.{Ok}
 use Prim.Native.Nat.{ℕ, ◌^◌, ◌<◌}
 use mathlib.Core.Path.{◌≡◌, refl, sym, ap, ◌∙◌}
 use mathlib.Core.Bool.{Bool, false, ◌&&◌}
@@ -11,18 +12,18 @@ use Rattle.words.specs.Bits.{has_bit}
 use Rattle.tables.specs.declared.Head.{Head}
 use Rattle.tables.specs.Table.{keyed, labels_part, steps_part}
 use Rattle.tables.proofs.KindLaws.{plain-key}
-use Rattle.table_reader.specs.declared.TableRead.TheVariants.{Good}
 use Rattle.table_reader.specs.TableReading.{read_table}
+use Rattle.sides.specs.declared.Side.{Side}
 use Rattle.sides.specs.Side.{system_in, key_at, silent_from}
 use Rattle.sides.specs.Built.{SideOf, PlainSide}
 use Rattle.sides.proofs.GroupLaws.{silent-start}
 use Rattle.sides.proofs.ViewLaws.{keys-are, side-linked}
 
-pub side-plain : (s : List ℕ) {h : Head} {words side : List ℕ} → read_table s ≡ Good h → SideOf h (labels_part s) (steps_part s) words side
+pub side-plain : (s : List ℕ) {h : Head} {words : List ℕ} {side : Side} → read_table s ≡ Ok h → SideOf h (labels_part s) (steps_part s) words side
     → keyed s ≡ false → PlainSide side
 side-plain s good a p = record { linked = side-linked s good a; no_keys = λ j. keys-are s good a j ∙ plain-key s p j }
 
-module _ {side : List ℕ} (plain : PlainSide side) where
+module _ {side : Side} (plain : PlainSide side) where
   -- the states that its steps enter
   pub plain-entered : (s u : ℕ) → has_bit (silent_from side s) u
       ≡ any_below (system_in side).steps (λ k. eqb ((system_in side).from k) s && eqb ((system_in side).to k) u)

@@ -3,43 +3,81 @@
 // are linked in their order.
 #![tactic(auto)]
 
-ghost use Rattle.std.specs.Prelude.{◌≡◌, cond, ◌+◌, ◌^◌, ◌≤◌, ◌<◌, min};
-ghost use Rattle.tables.specs.Table.{layout_of};
-ghost use Rattle.sides.specs.Side.{cell_at, head_part, system_in, start_word_in, key_at, related_to, silent_from};
-ghost use Rattle.sides.specs.Side.{first_step, link_at, entered_by};
+ghost use Rattle.std.specs.Prelude.{◌≡◌, ◌^◌, ◌≤◌, ◌<◌, set};
+ghost use Rattle.std.specs.Iterator.{YieldsFirst, item_count};
+ghost use Rattle.sides.specs.Side.{next_step, steps_in, steps_left};
+ghost use Rattle.sides.specs.Side.{system_in, start_word_in, key_at, related_to, silent_from, first_step, link_at, group_at, entered_by};
 ghost use Rattle.sides.specs.Built.{SideOf};
-ghost use Rattle.sides.specs.Building.{put_at, put_entered};
+ghost use Rattle.sides.specs.Building.{Unlinked, put_entered, relinked};
 
-use tables::{Format, Head};
+use tables::Head;
 use words::Row;
 
-// The words of a side. Its parts are read by the functions below alone.
-pub type Side = [u64; 5 * Head::MAX_STATES + 5 * Head::MAX_STEPS];
+// One table and the relation, seen from it. A number of states or of steps above the limits counts as the limit.
+#[derive(Drop)]
+pub struct Side {
+    pub states: usize,
+    pub steps: usize,
+    // The initial states, and whether the table has a start word.
+    pub initial: Row,
+    pub word: bool,
+    // For each state the states related to it, those that its silent steps enter, the first step from it, and its label.
+    pub related: [u64; Head::MAX_STATES],
+    pub silent: [u64; Head::MAX_STATES],
+    pub first: [usize; Head::MAX_STATES],
+    pub label: [u64; Head::MAX_STATES],
+    // For each step the next step from the same state, the states that it leaves and enters, its key, and the states that it and the later steps with its
+    // key from the same state enter.
+    pub next: [usize; Head::MAX_STEPS],
+    pub from: [usize; Head::MAX_STEPS],
+    pub to: [usize; Head::MAX_STEPS],
+    pub key: [usize; Head::MAX_STEPS],
+    pub group: [u64; Head::MAX_STEPS],
+}
 
-// Where each part begins: the header; for each state the states related to it, the states that its silent steps enter, its first step, and its label; for
-// each step the next step from the same state, the states that it leaves and enters, its key, and the states that it and the later steps with its key from
-// the same state enter.
-const HEAD: usize = 0;
+// A walk along the links of a side: `next` is the step that comes next, and 256 where none is left.
+#[derive(Clone, Copy)]
+pub struct StepsFrom<'a> {
+    side: &'a Side,
+    next: usize,
+}
 
-const RELATED: usize = Head::MAX_STATES;
+impl<'a> Iterator for StepsFrom<'a> {
+    type Item = usize;
 
-const SILENT: usize = 2 * Head::MAX_STATES;
+    ghost next_gives = { YieldsFirst steps_left };
 
-const FIRST: usize = 3 * Head::MAX_STATES;
+    ghost remaining = { item_count steps_left };
 
-const LABEL: usize = 4 * Head::MAX_STATES;
+    fn next(&mut self) -> Option<usize> {
+        let j = self.next;
+        if j < Head::MAX_STEPS {
+            self.next = self.side.after(j);
+            return Some(j);
+        }
+        None
+    }
+}
 
-const NEXT: usize = 5 * Head::MAX_STATES;
+// Two sides, seen from the first.
+#[derive(Clone, Copy)]
+pub struct View<'a> {
+    pub ours: &'a Side,
+    pub theirs: &'a Side,
+}
 
-const FROM: usize = NEXT + Head::MAX_STEPS;
-
-const TO: usize = FROM + Head::MAX_STEPS;
-
-const KEY: usize = TO + Head::MAX_STEPS;
-
-const GROUP: usize = KEY + Head::MAX_STEPS;
-
-// ---- what a side says
+impl<'a> View<'a> {
+    // The same two, seen from the other.
+    pub fn turned(self) -> View<'a>
+        ensures ours { result.ours.now ≡ self.entry.theirs.now }
+        ensures theirs { result.theirs.now ≡ self.entry.ours.now }
+    {
+        View {
+            ours: self.theirs,
+            theirs: self.ours,
+        }
+    }
+}
 
 // A word, which has 64 bits.
 fn word(x: u64) -> u64
@@ -49,242 +87,221 @@ fn word(x: u64) -> u64
     x
 }
 
-// The word at i of the part from base on that has `size` words; 0 past its end.
-fn cell(side: &Side, base: usize, size: usize, i: usize) -> u64
-    requires { base + size ≤ 1600 }
-    ensures value { result ≡ cell_at (record { base = base; size = size }) side.now i }
-    ensures small { result < 2 ^ 64 }
+// Stores x at i; past the end nothing changes.
+fn put<T: Copy>(items: &mut [T], i: usize, x: T)
+    ensures { items.new ≡ set items.old i x }
 {
-    if i < size { word(side[base + i]) } else { 0 }
-}
-
-// A number, and the limit where it is more.
-fn at_most(x: usize, limit: usize) -> usize
-    ensures { result ≡ min x limit }
-{
-    if x < limit { x } else { limit }
-}
-
-// The number of states.
-pub fn states(side: &Side) -> usize
-    ensures value { result ≡ (system_in side.now).states }
-    ensures small { result ≤ 64 }
-{
-    at_most(
-        cell(side, HEAD, Head::MAX_STATES, 0) as usize,
-        Head::MAX_STATES,
-    )
-}
-
-// The number of steps.
-pub fn step_count(side: &Side) -> usize
-    ensures value { result ≡ (system_in side.now).steps }
-    ensures small { result ≤ 256 }
-{
-    at_most(
-        cell(side, HEAD, Head::MAX_STATES, 1) as usize,
-        Head::MAX_STEPS,
-    )
-}
-
-// The initial states.
-pub fn initial(side: &Side) -> Row
-    ensures value { result.0 ≡ cell_at head_part side.now 2 }
-    ensures small { result.0 < 2 ^ 64 }
-{
-    Row(cell(side, HEAD, Head::MAX_STATES, 2))
-}
-
-// Whether the table has a start word.
-pub fn has_start_word(side: &Side) -> bool
-    ensures { result ≡ start_word_in side.now }
-{
-    cell(side, HEAD, Head::MAX_STATES, 3) == 1
-}
-
-// The states of the other side that are related to s.
-pub fn related(side: &Side, s: usize) -> Row
-    ensures value { result.0 ≡ related_to side.now s }
-    ensures small { result.0 < 2 ^ 64 }
-{
-    Row(cell(side, RELATED, Head::MAX_STATES, s))
-}
-
-// The states that silent steps from s enter.
-pub fn silent(side: &Side, s: usize) -> Row
-    ensures value { result.0 ≡ silent_from side.now s }
-    ensures small { result.0 < 2 ^ 64 }
-{
-    Row(cell(side, SILENT, Head::MAX_STATES, s))
-}
-
-// The label of s.
-pub fn label(side: &Side, s: usize) -> u64
-    ensures { result ≡ (system_in side.now).label s }
-{
-    cell(side, LABEL, Head::MAX_STATES, s)
-}
-
-// The first step from s, and 256 where there is none.
-pub fn first(side: &Side, s: usize) -> usize
-    ensures { result ≡ first_step side.now s }
-{
-    if s < Head::MAX_STATES {
-        cell(side, FIRST, Head::MAX_STATES, s) as usize
-    } else {
-        Head::MAX_STEPS
+    if i < items.len() {
+        items[i] = x;
     }
 }
 
-// The step after j from the same state; one that is not later than j stands for none.
-pub fn next(side: &Side, j: usize) -> usize
-    ensures { result ≡ link_at side.now j }
-{
-    cell(side, NEXT, Head::MAX_STEPS, j) as usize
-}
+impl Side {
+    // ---- what a side says
 
-// The state that step j leaves.
-pub fn from(side: &Side, j: usize) -> usize
-    ensures { result ≡ (system_in side.now).from j }
-{
-    cell(side, FROM, Head::MAX_STEPS, j) as usize
-}
-
-// The state that step j enters.
-pub fn to(side: &Side, j: usize) -> usize
-    ensures { result ≡ (system_in side.now).to j }
-{
-    cell(side, TO, Head::MAX_STEPS, j) as usize
-}
-
-// The key of step j; 0 is that of a silent step.
-pub fn key(side: &Side, j: usize) -> usize
-    ensures { result ≡ key_at side.now j }
-{
-    cell(side, KEY, Head::MAX_STEPS, j) as usize
-}
-
-// The states that steps with this key from s enter, found along the links.
-pub fn entered_by(side: &Side, s: usize, by: usize) -> Row
-    ensures value { result.0 ≡ entered_by side.now s by }
-    ensures small { result.0 < 2 ^ 64 }
-{
-    if by == 0 {
-        return silent(side, s);
+    // The number of states.
+    pub fn states(&self) -> usize
+        ensures value { result ≡ (system_in self.now).states }
+        ensures small { result ≤ 64 }
+    {
+        self.states.min(Head::MAX_STATES)
     }
-    let mut j = first(side, s);
-    while j < Head::MAX_STEPS {
-        if key(side, j) == by {
-            return Row(cell(side, GROUP, Head::MAX_STEPS, j));
+
+    // The number of steps.
+    pub fn step_count(&self) -> usize
+        ensures value { result ≡ (system_in self.now).steps }
+        ensures small { result ≤ 256 }
+    {
+        self.steps.min(Head::MAX_STEPS)
+    }
+
+    // The initial states.
+    pub fn initial(&self) -> Row
+        ensures value { result.0 ≡ self.now.initial.0 }
+        ensures small { result.0 < 2 ^ 64 }
+    {
+        Row(word(self.initial.0))
+    }
+
+    // Whether the table has a start word.
+    pub fn has_start_word(&self) -> bool
+        ensures { result ≡ start_word_in self.now }
+    {
+        self.word
+    }
+
+    // The states of the other side that are related to s.
+    #[tactic(auto, unfolding(crate::specs::Side::related_to))]
+    pub fn related(&self, s: usize) -> Row
+        ensures value { result.0 ≡ related_to self.now s }
+        ensures small { result.0 < 2 ^ 64 }
+    {
+        Row(self.related.get(s).copied().unwrap_or(0))
+    }
+
+    // The states that silent steps from s enter.
+    pub fn silent(&self, s: usize) -> Row
+        ensures value { result.0 ≡ silent_from self.now s }
+        ensures small { result.0 < 2 ^ 64 }
+    {
+        Row(self.silent.get(s).copied().unwrap_or(0))
+    }
+
+    // The label of s.
+    pub fn label(&self, s: usize) -> u64
+        ensures { result ≡ (system_in self.now).label s }
+    {
+        self.label.get(s).copied().unwrap_or(0)
+    }
+
+    // The first step from s, and 256 where there is none.
+    pub fn first(&self, s: usize) -> usize
+        ensures { result ≡ first_step self.now s }
+    {
+        self.first.get(s).copied().unwrap_or(Head::MAX_STEPS)
+    }
+
+    // The step after j from the same state; one that is not later than j stands for none.
+    pub fn next(&self, j: usize) -> usize
+        ensures { result ≡ link_at self.now j }
+    {
+        self.next.get(j).copied().unwrap_or(0)
+    }
+
+    // The step after j from the same state, and 256 where there is none.
+    #[tactic(auto, unfolding(crate::specs::Side::next_step))]
+    fn after(&self, j: usize) -> usize
+        ensures { result ≡ next_step self.now j }
+    {
+        let later = self.next(j);
+        if j < later { later } else { Head::MAX_STEPS }
+    }
+
+    // The steps from s, along the links.
+    #[tactic(auto, unfolding(crate::specs::Side::steps_in))]
+    pub fn steps_from(&self, s: usize) -> StepsFrom<'_>
+        ensures { steps_left result ≡ steps_in self.now s }
+    {
+        StepsFrom {
+            side: self,
+            next: self.first(s),
         }
-        let later = next(side, j);
-        if later <= j {
-            return Row::empty();
+    }
+
+    // The state that step j leaves.
+    pub fn from(&self, j: usize) -> usize
+        ensures { result ≡ (system_in self.now).from j }
+    {
+        self.from.get(j).copied().unwrap_or(0)
+    }
+
+    // The state that step j enters.
+    pub fn to(&self, j: usize) -> usize
+        ensures { result ≡ (system_in self.now).to j }
+    {
+        self.to.get(j).copied().unwrap_or(0)
+    }
+
+    // The key of step j; 0 is that of a silent step.
+    pub fn key(&self, j: usize) -> usize
+        ensures { result ≡ key_at self.now j }
+    {
+        self.key.get(j).copied().unwrap_or(0)
+    }
+
+    // The states that step j and the later steps with its key from the same state enter.
+    fn group(&self, j: usize) -> Row
+        ensures value { result.0 ≡ group_at self.now j }
+        ensures small { result.0 < 2 ^ 64 }
+    {
+        Row(self.group.get(j).copied().unwrap_or(0))
+    }
+
+    // The states that steps with this key from s enter, found along the links.
+    pub fn entered_by(&self, s: usize, by: usize) -> Row
+        ensures value { result.0 ≡ entered_by self.now s by }
+        ensures small { result.0 < 2 ^ 64 }
+    {
+        if by == 0 {
+            return self.silent(s);
         }
-        j = later;
+        for j in self.steps_from(s) {
+            if self.key(j) == by {
+                return self.group(j);
+            }
+        }
+        Row::empty()
     }
-    Row::empty()
-}
 
-// ---- how a side is made
+    // ---- how a side is made
 
-// Stores x at i of the part from base on that has `size` words; past its end nothing changes.
-fn put(side: &mut Side, base: usize, size: usize, i: usize, x: u64)
-    requires { base + size ≤ 1600 }
-    ensures { side.new ≡ put_at (record { base = base; size = size }) side.old i x }
-{
-    if i < size {
-        side[base + i] = x;
+    // The header, the related states, the labels, and the ends and keys of the steps; no link yet.
+    fn unlinked(head: Head, labels: &[u8], steps: &[u8], words: &[u64; Head::MAX_STATES]) -> Self
+        ensures { Unlinked head labels.now steps.now words.now result }
+    {
+        let format = head.format;
+        let mut label = [0; Head::MAX_STATES];
+        for s in 0..Head::MAX_STATES {
+            label[s] = tables::label(labels, format, s);
+        }
+        let mut from = [0; Head::MAX_STEPS];
+        let mut to = [0; Head::MAX_STEPS];
+        let mut key = [0; Head::MAX_STEPS];
+        for j in 0..head.steps.min(Head::MAX_STEPS) {
+            from[j] = tables::from(steps, format, j);
+            to[j] = tables::to(steps, format, j);
+            key[j] = tables::key(steps, format, j);
+        }
+        Side {
+            states: head.states,
+            steps: head.steps,
+            initial: head.initial,
+            word: format.layout().word,
+            related: *words,
+            silent: [0; Head::MAX_STATES],
+            first: [Head::MAX_STEPS; Head::MAX_STATES],
+            label,
+            next: [0; Head::MAX_STEPS],
+            from,
+            to,
+            key,
+            group: [0; Head::MAX_STEPS],
+        }
     }
-}
 
-// 1 where a table of this format has a start word, 0 where it has none.
-fn start_word(format: Format) -> u64
-    ensures { result ≡ cond (layout_of format).word 1 0 }
-{
-    let layout = format.layout();
-    if layout.word { 1 } else { 0 }
-}
+    // Stores the states that steps with the key of step j from s enter, from j on: of a silent step at s, of any other at j.
+    fn put_entered(&mut self, s: usize, j: usize, by: usize, states: Row)
+        ensures { self.new ≡ put_entered self.old s j by states.0 }
+    {
+        if by == 0 {
+            put(&mut self.silent, s, states.0);
+        } else {
+            put(&mut self.group, j, states.0);
+        }
+    }
 
-// Stores the states that steps with the key of step j from s enter, from j on: of a silent step at s, of any other at j.
-fn put_entered(side: &mut Side, s: usize, j: usize, by: usize, states: Row)
-    ensures { side.new ≡ put_entered side.old s j by states.0 }
-{
-    if by == 0 {
-        put(side, SILENT, Head::MAX_STATES, s, states.0);
-    } else {
-        put(side, GROUP, Head::MAX_STEPS, j, states.0);
+    // Links step j before the later steps from the same state, and stores the states that it and those of them with its key enter.
+    fn link(&mut self, j: usize)
+        ensures { self.new ≡ relinked self.old j }
+    {
+        let s = self.from(j);
+        let by = self.key(j);
+        let later = self.first(s);
+        let states = self.entered_by(s, by);
+        let more = states.add(self.to(j));
+        self.put_entered(s, j, by, more);
+        put(&mut self.first, s, j);
+        put(&mut self.next, j, later);
     }
-}
 
-// The side of a table, from its header and the parts that hold its labels and its steps, with the states related to each of its states.
-pub fn side_of(head: Head, labels: &[u8], steps: &[u8], words: &[u64; Head::MAX_STATES]) -> Side
-    ensures { SideOf head labels.now steps.now words.now result }
-{
-    let format = head.format;
-    // The states related to each state and its label, and no step yet.
-    let mut side: Side = [0; 5 * Head::MAX_STATES + 5 * Head::MAX_STEPS];
-    let mut s: usize = 0;
-    while s < Head::MAX_STATES {
-        put(&mut side, RELATED, Head::MAX_STATES, s, words[s]);
-        put(
-            &mut side,
-            FIRST,
-            Head::MAX_STATES,
-            s,
-            Head::MAX_STEPS as u64,
-        );
-        put(
-            &mut side,
-            LABEL,
-            Head::MAX_STATES,
-            s,
-            tables::label(labels, format, s),
-        );
-        s += 1;
+    // The side of a table, from its header and the parts that hold its labels and its steps, with the states related to each of its states.
+    pub fn of(head: Head, labels: &[u8], steps: &[u8], words: &[u64; Head::MAX_STATES]) -> Self
+        ensures { SideOf head labels.now steps.now words.now result }
+    {
+        let mut side = Side::unlinked(head, labels, steps, words);
+        for j in (0..side.step_count()).rev() {
+            side.link(j);
+        }
+        side
     }
-    put(&mut side, HEAD, Head::MAX_STATES, 0, head.states as u64);
-    put(&mut side, HEAD, Head::MAX_STATES, 1, head.steps as u64);
-    put(&mut side, HEAD, Head::MAX_STATES, 2, head.initial.0);
-    put(&mut side, HEAD, Head::MAX_STATES, 3, start_word(format));
-    // The ends and the keys of the steps.
-    let m = at_most(head.steps, Head::MAX_STEPS);
-    let mut j: usize = 0;
-    while j < m {
-        put(
-            &mut side,
-            FROM,
-            Head::MAX_STEPS,
-            j,
-            tables::from(steps, format, j) as u64,
-        );
-        put(
-            &mut side,
-            TO,
-            Head::MAX_STEPS,
-            j,
-            tables::to(steps, format, j) as u64,
-        );
-        put(
-            &mut side,
-            KEY,
-            Head::MAX_STEPS,
-            j,
-            tables::key(steps, format, j) as u64,
-        );
-        j += 1;
-    }
-    // Their links, from the last step to the first.
-    while 0 < j {
-        j -= 1;
-        let from_state = from(&side, j);
-        let later = first(&side, from_state);
-        let by = key(&side, j);
-        let states = entered_by(&side, from_state, by);
-        let more = states.add(to(&side, j));
-        put_entered(&mut side, from_state, j, by, more);
-        put(&mut side, FIRST, Head::MAX_STATES, from_state, j as u64);
-        put(&mut side, NEXT, Head::MAX_STEPS, j, later as u64);
-    }
-    side
 }

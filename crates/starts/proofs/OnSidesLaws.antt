@@ -1,4 +1,5 @@
 -- Laws of the starts as they are read off two sides: which starts 16 names, and that the verdict is that of the view that the sides hold. Assumes nothing.
+use Rattle.std.specs.Prelude.{Err, Ok}
 use Prim.Native.Nat.{ℕ}
 use mathlib.Core.Path.{◌≡◌, refl, sym, ap, ap₂, ◌∙◌}
 use mathlib.Core.Logic.{◌⊎◌, inl, inr}
@@ -7,13 +8,11 @@ use mathlib.Core.List.{List}
 use Rattle.words.specs.Bits.{has_bit}
 use Rattle.bisimulation.specs.Systems.{View, flip}
 use Rattle.answers.specs.declared.Answer.{Answer}
-use Rattle.answers.specs.declared.Checked.TheVariants.{Passed, Refused}
-use Rattle.answers.specs.Verdicts.{Verdict, ◌and_then◌, as_checked}
-use Rattle.answers.proofs.CheckedLaws.{was-passed, was-refused}
+use Rattle.answers.specs.Verdicts.{Verdict, ◌and_then◌, passed}
 use Rattle.tables.specs.declared.Head.{Head}
 use Rattle.tables.specs.Table.{start_word, start_of, labels_part, steps_part}
-use Rattle.table_reader.specs.declared.TableRead.TheVariants.{Good}
 use Rattle.table_reader.specs.TableReading.{read_table}
+use Rattle.sides.specs.declared.Side.{Side}
 use Rattle.sides.specs.Side.{start_in, start_word_in, related_to}
 use Rattle.sides.specs.Views.{view_in}
 use Rattle.sides.specs.Built.{SideOf}
@@ -22,18 +21,18 @@ use Rattle.starts.specs.StartsNamed.{StartsNamed, both_starts, unpaired_start, s
 use Rattle.starts.specs.StartsVerdict.{starts_answer, unpaired_verdict, starts_verdict, view_by_theirs, starts_as, starts_in}
 
 -- where 16 names both
-module _ (ours theirs : List ℕ) {s t word : ℕ} (es : s ≡ start_in ours) (et : t ≡ start_in theirs) (ew : word ≡ related_to ours s) where
+module _ (ours theirs : Side) {s t word : ℕ} (es : s ≡ start_in ours) (et : t ≡ start_in theirs) (ew : word ≡ related_to ours s) where
   word-is : has_bit word t ≡ (view_in ours theirs).related (start_in ours) (start_in theirs)
   word-is = ap₂ has_bit (ew ∙ ap (related_to ours) es) et
 
-  pub both-pass : has_bit word t ≡ true → Passed ≡ as_checked (starts_as ours theirs (both_starts (start_in ours) (start_in theirs)))
+  pub both-pass : has_bit word t ≡ true → passed ≡ starts_as ours theirs (both_starts (start_in ours) (start_in theirs))
   both-pass e = sym (rw (sym word-is ∙ e))
 
-  pub both-differ : has_bit word t ≡ false → Refused (starts_answer s t) ≡ as_checked (starts_as ours theirs (both_starts (start_in ours) (start_in theirs)))
+  pub both-differ : has_bit word t ≡ false → Err (starts_answer s t) ≡ starts_as ours theirs (both_starts (start_in ours) (start_in theirs))
   both-differ e = sym (rw (sym word-is ∙ e, es, et))
 
 -- which starts it names
-module _ (ours theirs : List ℕ) where
+module _ (ours theirs : Side) where
   pub named-unpaired : (start_word_in ours ≡ true) ⊎ (start_word_in theirs ≡ true) → starts_named_in ours theirs ≡ unpaired_start
   unfolding starts_named_in
   named-unpaired (inl e) = rw e
@@ -44,7 +43,7 @@ module _ (ours theirs : List ℕ) where
   named-both e q = rw (e, q)
 
 -- where it names an unpaired one, our starts come first
-module _ (ours theirs : List ℕ) (e : starts_named_in ours theirs ≡ unpaired_start) where
+module _ (ours theirs : Side) (e : starts_named_in ours theirs ≡ unpaired_start) where
   abbrev left : Verdict (Unit {0})
   left = unpaired_verdict (view_by_theirs ours theirs) 0
 
@@ -54,14 +53,14 @@ module _ (ours theirs : List ℕ) (e : starts_named_in ours theirs ≡ unpaired_
   after-left : {x : Verdict (Unit {0})} → left ≡ x → starts_in ours theirs ≡ (x and_then λ y. right)
   after-left q = ap (starts_as ours theirs) e ∙ ap (λ (x : Verdict (Unit {0})). x and_then λ y. right) q
 
-  pub left-unpaired : {a : Answer} → as_checked left ≡ Refused a → Refused a ≡ as_checked (starts_in ours theirs)
-  left-unpaired {a} q = sym (ap as_checked (after-left (was-refused left a q)))
+  pub left-unpaired : {a : Answer} → left ≡ Err a → Err a ≡ starts_in ours theirs
+  left-unpaired q = sym (after-left q)
 
-  pub right-decides : as_checked left ≡ Passed → as_checked right ≡ as_checked (starts_in ours theirs)
-  right-decides q = sym (ap as_checked (after-left (was-passed left q)))
+  pub right-decides : left ≡ passed → right ≡ starts_in ours theirs
+  right-decides q = sym (after-left q)
 
 -- of two sides that are seen from either side the same it is the theory's
-pub starts-in : (ours theirs : List ℕ) → view_in theirs ours ≡ flip (view_in ours theirs)
+pub starts-in : (ours theirs : Side) → view_in theirs ours ≡ flip (view_in ours theirs)
     → starts_in ours theirs ≡ starts_verdict (view_in ours theirs) (starts_named_in ours theirs)
 unfolding starts_verdict
 starts-in ours theirs turned = go (starts_named_in ours theirs)
@@ -71,7 +70,7 @@ starts-in ours theirs turned = go (starts_named_in ours theirs)
     go unpaired_start = ap (λ (v : View). unpaired_verdict (flip v) 0 and_then λ x. unpaired_verdict (view_by_theirs theirs ours) 1) turned
 
 -- sides of tables that are read name the starts that the tables do
-module _ (left right : List ℕ) {h k : Head} {words words' ours theirs : List ℕ} (gl : read_table left ≡ Good h) (gr : read_table right ≡ Good k)
+module _ (left right : List ℕ) {h k : Head} {words words' : List ℕ} {ours theirs : Side} (gl : read_table left ≡ Ok h) (gr : read_table right ≡ Ok k)
     (a : SideOf h (labels_part left) (steps_part left) words ours) (b : SideOf k (labels_part right) (steps_part right) words' theirs) where
   pub starts-named : starts_named_in ours theirs ≡ starts_named left right
   unfolding starts_named starts_named_in

@@ -1,5 +1,6 @@
 -- Laws of the starts rule: the verdict on the starts is decided by the causes 16, and none of these applies exactly where each own start is related to some
 -- start of the other and each start of the other to some own one. Assumes nothing.
+use Rattle.std.specs.Prelude.{Err}
 use Prim.Native.Nat.{ℕ, ◌<◌}
 use mathlib.Core.Path.{◌≡◌, refl}
 use mathlib.Core.Logic.{◌↔◌}
@@ -9,7 +10,7 @@ use Rattle.lists.specs.Below.{any_below}
 use Rattle.bisimulation.specs.Systems.{System, View, flip, InitialRelated, StartsRule}
 use Rattle.bisimulation.proofs.Equivalences.{one-initial}
 use Rattle.answers.specs.Causes.{NoCause, Numbered}
-use Rattle.answers.specs.Verdicts.{refused_with, passed}
+use Rattle.answers.specs.Verdicts.{passed}
 use Rattle.answers.proofs.CauseLaws.{append-none, none-append, below_none, none_below, numbered-append, numbered_below}
 use Rattle.answers.proofs.DecideLaws.{Decides, decides-as, decides-stable, test-decides, not-decides, and-decides, any-decides}
 use Rattle.answers.proofs.VerdictLaws.{Decided, Anything, decided-none, decided-test, decided-unless, decided-then, decided-below}
@@ -45,7 +46,7 @@ module _ (v : View) (below' : StartsBelow v.other) where
   unfolding unpaired_verdict
   unpaired-decided side =
       decided-below v.own.states _ _ λ s.
-      decided-test (λ x. x) (refused_with (unpaired_answer side s)) passed (unpaired-decides s) refl (decided-none tt)
+      decided-test (λ x. x) (Err (unpaired_answer side s)) passed (unpaired-decides s) refl (decided-none tt)
 
   -- no start is unpaired exactly where each is related to one of the other
   paired-iff : StartsBelow v.own → (side : ℕ) → NoCause (unpaired_causes v side) ↔ InitialRelated v
@@ -60,7 +61,7 @@ module _ (v : View) (below : StartsBelow v.own) (below' : StartsBelow v.other) w
   pub starts-decided : (named : StartsNamed) → Decided Anything (starts_causes v named) (starts_verdict v named)
   unfolding starts_verdict
   starts-decided (both_starts s t) =
-      decided-unless (λ x. x) (v.related s t) (refused_with (starts_answer s t)) passed (not-decides (test-decides (v.related s t))) refl (decided-none tt)
+      decided-unless (λ x. x) (v.related s t) (Err (starts_answer s t)) passed (not-decides (test-decides (v.related s t))) refl (decided-none tt)
   starts-decided unpaired_start = decided-then (unpaired_verdict v 0) (unpaired-decided v below' 0) λ x g n. unpaired-decided (flip v) below 1
 
   pub starts-iff : (named : StartsNamed) → NamesStarts v named → NoCause (starts_causes v named) ↔ StartsRule v

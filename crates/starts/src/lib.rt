@@ -2,65 +2,59 @@
 #![tactic(auto)]
 
 ghost use Rattle.std.specs.Prelude.{◌≡◌};
-ghost use Rattle.answers.specs.Verdicts.{as_checked};
+ghost use Rattle.answers.specs.Numbers.{which_number};
 ghost use Rattle.sides.specs.Side.{start_in};
 ghost use Rattle.starts.specs.StartsNamed.{both_starts};
 ghost use Rattle.starts.specs.StartsVerdict.{unpaired_verdict, view_by_theirs, starts_as, starts_in};
 ghost use Rattle.starts.specs.Unpairing.{UnpairedWord};
 
-use answers::{Answer, Checked};
-use sides::{Side, has_start_word, initial, related, states};
+use answers::{Answer, Which};
+use sides::View;
 use words::Row;
 
 // The starts of ours that are related to none of theirs.
-fn unpaired(ours: &Side, theirs: &Side) -> Row
-    ensures { UnpairedWord ours.now theirs.now result.0 }
+fn unpaired(view: View) -> Row
+    ensures { UnpairedWord view.entry.ours.now view.entry.theirs.now result.0 }
 {
-    let n = states(theirs);
-    let mut alone = initial(ours);
-    let mut rest = initial(theirs);
-    let mut t = rest.first();
-    while t < n {
-        alone = alone.without(related(theirs, t));
-        rest = rest.remove(t);
-        t = rest.first();
+    let n = view.theirs.states();
+    let mut alone = view.ours.initial();
+    for t in view.theirs.initial() {
+        if n <= t {
+            break;
+        }
+        alone = alone.without(view.theirs.related(t));
     }
     alone
 }
 
 // Whether each start of ours is related to some of theirs: 16 for the first that is not. We are the side named.
-fn check_paired(ours: &Side, theirs: &Side, side: usize) -> Checked
-    ensures { result ≡ as_checked (unpaired_verdict (view_by_theirs ours.now theirs.now) side) }
+fn check_paired(view: View, side: Which) -> Result<(), Answer>
+    ensures { result ≡ unpaired_verdict (view_by_theirs view.entry.ours.now view.entry.theirs.now) (which_number side) }
 {
-    let alone = unpaired(ours, theirs);
-    let s = alone.first();
-    if s < states(ours) {
-        return Checked::Refused(Answer {
+    let alone = unpaired(view);
+    match alone.smallest() {
+        Some(s) if s < view.ours.states() => Err(Answer {
             code: 16,
             file: 2,
-            a: side,
+            a: usize::from(side),
             b: s,
             c: 0,
             d: 0,
-        });
+        }),
+        _ => Ok(()),
     }
-    Checked::Passed
 }
 
-// Whether the two starts are related: 16 where they are not. The start of a side is its smallest initial state.
-fn check_both(ours: &Side, theirs: &Side) -> Checked
-    ensures { result ≡ as_checked (starts_as ours.now theirs.now
-        (both_starts (start_in ours.now) (start_in theirs.now))) }
+// Whether the two starts are related: 16 where they are not. The start of a side is its smallest initial state, and 64 where it has none.
+fn check_both(view: View) -> Result<(), Answer>
+    ensures { result ≡ starts_as view.entry.ours.now view.entry.theirs.now (both_starts (start_in view.entry.ours.now) (start_in view.entry.theirs.now)) }
 {
-    let first = initial(ours);
-    let second = initial(theirs);
-    let s = first.first();
-    let t = second.first();
-    let word = related(ours, s);
-    if word.has(t) {
-        return Checked::Passed;
+    let s = view.ours.initial().first();
+    let t = view.theirs.initial().first();
+    if view.ours.related(s).has(t) {
+        return Ok(());
     }
-    Checked::Refused(Answer {
+    Err(Answer {
         code: 16,
         file: 2,
         a: s,
@@ -72,15 +66,12 @@ fn check_both(ours: &Side, theirs: &Side) -> Checked
 
 // The starts rule: each left start is related to some right start, and each right start to some left one. 16 where it fails, named by the side and the
 // first unpaired start where either table has a start word, left side first, and otherwise by the two starts.
-pub fn check_starts(ours: &Side, theirs: &Side) -> Checked
-    ensures { result ≡ as_checked (starts_in ours.now theirs.now) }
+pub fn check_starts(view: View) -> Result<(), Answer>
+    ensures { result ≡ starts_in view.entry.ours.now view.entry.theirs.now }
 {
-    if has_start_word(ours) || has_start_word(theirs) {
-        let left = check_paired(ours, theirs, 0);
-        let Checked::Passed = left else {
-            return left;
-        };
-        return check_paired(theirs, ours, 1);
+    if view.ours.has_start_word() || view.theirs.has_start_word() {
+        check_paired(view, Which::Left)?;
+        return check_paired(view.turned(), Which::Right);
     }
-    check_both(ours, theirs)
+    check_both(view)
 }

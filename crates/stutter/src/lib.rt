@@ -26,12 +26,14 @@ fn put_numbers(numbers: Answer, places: &mut [u64]) -> bool
     if places.len() < PLACES {
         return false;
     }
-    places[0] = numbers.code as u64;
-    places[1] = numbers.file as u64;
-    places[2] = numbers.a as u64;
-    places[3] = numbers.b as u64;
-    places[4] = numbers.c as u64;
-    places[5] = numbers.d as u64;
+    places[..PLACES].copy_from_slice(&[
+        numbers.code as u64,
+        numbers.file as u64,
+        numbers.a as u64,
+        numbers.b as u64,
+        numbers.c as u64,
+        numbers.d as u64,
+    ]);
     true
 }
 
@@ -42,10 +44,12 @@ fn put_slip(slip: Slip, places: &mut [u64])
     if places.len() < SLIP {
         return;
     }
-    places[0] = slip.left as u64;
-    places[1] = slip.right as u64;
-    places[2] = slip.relation as u64;
-    places[3] = slip.certificate as u64;
+    places[..SLIP].copy_from_slice(&[
+        slip.left as u64,
+        slip.right as u64,
+        slip.relation as u64,
+        slip.certificate as u64,
+    ]);
 }
 
 // The slip that the first four places hold.
@@ -53,15 +57,11 @@ fn slip_in(places: &[u64]) -> Slip
     requires { 4 ≤ length places.now }
     ensures { result ≡ slip_in places.now }
 {
-    let left = places[0];
-    let right = places[1];
-    let relation = places[2];
-    let certificate = places[3];
     Slip {
-        left: left as usize,
-        right: right as usize,
-        relation: relation as usize,
-        certificate: certificate as usize,
+        left: places[0] as usize,
+        right: places[1] as usize,
+        relation: places[2] as usize,
+        certificate: places[3] as usize,
     }
 }
 
@@ -73,13 +73,11 @@ fn has_room(answer: &[u64]) -> bool
 }
 
 // Whether there are places for an answer and for a slip.
+#[tactic(auto, unfolding(crate::specs::Interface::have_room))]
 fn have_room(slip: &[u64], answer: &[u64]) -> bool
     ensures { result ≡ have_room slip.now answer.now }
 {
-    if slip.len() < SLIP {
-        return false;
-    }
-    has_room(answer)
+    slip.len() >= SLIP && has_room(answer)
 }
 
 // Judges the certificate. The six numbers go to the first six places of `answer`; where it has fewer, nothing is written and false is returned.
@@ -101,6 +99,7 @@ pub extern "C" fn stutter_judge(
 // Makes a certificate at the front of `output`. The six numbers go to the first six places of `answer`; where it has fewer, nothing is written,
 // neither to it nor to `output`, and false is returned.
 #[unsafe(no_mangle)]
+#[tactic(auto, using(crate::proofs::InterfaceLaws::too_few), unfolding(crate::specs::Interface::where_room))]
 pub extern "C" fn stutter_make(
     left: &[u8],
     right: &[u8],
@@ -115,15 +114,12 @@ pub extern "C" fn stutter_make(
         ≡ where_room answer.old
         (make_output left.now right.now relation.now output.old) output.old }
 {
-    if answer.len() < PLACES {
-        return false;
-    }
-    let numbers = ranking::make(left, right, relation, output);
-    put_numbers(numbers, answer)
+    has_room(answer) && put_numbers(ranking::make(left, right, relation, output), answer)
 }
 
 // The same by the second maker, by sets: for every input the six numbers and the bytes of `stutter_make`.
 #[unsafe(no_mangle)]
+#[tactic(auto, using(crate::proofs::InterfaceLaws::too_few), unfolding(crate::specs::Interface::where_room))]
 pub extern "C" fn stutter_make_by_sets(
     left: &[u8],
     right: &[u8],
@@ -138,18 +134,14 @@ pub extern "C" fn stutter_make_by_sets(
         ≡ where_room answer.old
         (make_output left.now right.now relation.now output.old) output.old }
 {
-    if has_room(answer) {
-        let numbers = ranking::make_by_sets(left, right, relation, output);
-        put_numbers(numbers, answer)
-    } else {
-        false
-    }
+    has_room(answer) && put_numbers(ranking::make_by_sets(left, right, relation, output), answer)
 }
 
 // Follows a path of the table that `side` names, 0 left and 1 right, on the other one from its state `start` on. The states that match it go to the front of
 // `states`, the block numbers of the given states to the front of `blocks`, and the six numbers to the first six places of `answer`; where it has fewer,
 // nothing is written, neither to it nor to the outputs, and false is returned.
 #[unsafe(no_mangle)]
+#[tactic(auto, using(crate::proofs::InterfaceLaws::too_few), unfolding(crate::specs::Interface::where_room))]
 pub extern "C" fn stutter_follow(
     left: &[u8],
     right: &[u8],
@@ -174,8 +166,7 @@ pub extern "C" fn stutter_follow(
         (follow_blocks left.now right.now certificate.now side start path.now states.old
         blocks.old) blocks.old }
 {
-    let places = answer.len();
-    if places < PLACES {
+    if !has_room(answer) {
         return false;
     }
     let numbers = path_matcher::follow(
@@ -195,6 +186,7 @@ pub extern "C" fn stutter_follow(
 // the low one, in rising order. The six numbers go to the first six places of `answer`; where it has fewer, nothing is written, neither to it nor to `output`,
 // and false is returned.
 #[unsafe(no_mangle)]
+#[tactic(auto, using(crate::proofs::InterfaceLaws::too_few), unfolding(crate::specs::Interface::where_room))]
 pub extern "C" fn stutter_write(
     marks: &[u32],
     starts: u64,
@@ -208,12 +200,8 @@ pub extern "C" fn stutter_write(
     ensures written { output.new
         ≡ where_room answer.old (write_output marks.now starts steps.now output.old) output.old }
 {
-    let room = answer.len();
-    if room < PLACES {
-        return false;
-    }
-    let numbers = table_writer::write(marks, Row(starts), steps, output);
-    put_numbers(numbers, answer)
+    let starts = Row(starts);
+    has_room(answer) && put_numbers(table_writer::write(marks, starts, steps, output), answer)
 }
 
 // Enquires whether a certificate can be made. The four numbers of the slip go to the first four places of `slip`, and the six numbers to the first six places
@@ -234,13 +222,12 @@ pub extern "C" fn stutter_enquire(
         ≡ where_both slip.old answer.old
         (slipped (enquiry_for left.now right.now relation.now).slip slip.old) slip.old }
 {
-    if have_room(slip, answer) {
-        let enquiry = ranking::enquire(left, right, relation);
-        put_slip(enquiry.slip, slip);
-        put_numbers(enquiry.answer, answer)
-    } else {
-        false
+    if !have_room(slip, answer) {
+        return false;
     }
+    let enquiry = ranking::enquire(left, right, relation);
+    put_slip(enquiry.slip, slip);
+    put_numbers(enquiry.answer, answer)
 }
 
 // Makes a certificate at the front of `output`, where the first four places of `slip` have the true numbers. The six numbers go to the first six places of
@@ -264,10 +251,9 @@ pub extern "C" fn stutter_commit(
         (commit_output left.now right.now relation.now (slip_in slip.now) output.old)
         output.old }
 {
-    if have_room(slip, answer) {
-        let numbers = ranking::commit(left, right, relation, slip_in(slip), output);
-        put_numbers(numbers, answer)
-    } else {
-        false
+    if !have_room(slip, answer) {
+        return false;
     }
+    let numbers = ranking::commit(left, right, relation, slip_in(slip), output);
+    put_numbers(numbers, answer)
 }

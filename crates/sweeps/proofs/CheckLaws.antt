@@ -1,4 +1,5 @@
 -- Laws of the checks of a pair, of a left state and of all: how the judge goes on from one to the next. Assumes nothing.
+use Rattle.std.specs.Prelude.{Ok, Err}
 use Prim.Native.Nat.{ℕ, suc, ◌+◌, ◌*◌, ◌^◌, ◌≤◌, ◌<◌}
 use mathlib.Core.Path.{◌≡◌, refl, sym, ap, ap₂, ◌∙◌}
 use mathlib.Core.Bool.{Bool, true, false, cond}
@@ -15,18 +16,17 @@ use Rattle.lists.proofs.JoinLaws.{join_from, from-cong, from_start, from-skip, f
 use Rattle.lists.proofs.JoinLaws.{map-append, map-join, map-when}
 use Rattle.words.specs.Bits.{has_bit, first_bit, remove_bit}
 use Rattle.words.proofs.BitLaws as bits
-use Rattle.answers.specs.Verdicts.{Verdict, go_on, refused_with, along}
+use Rattle.answers.specs.Verdicts.{Verdict, along}
 use Rattle.answers.specs.declared.Answer.{Answer}
+use Rattle.sides.specs.declared.Side.{Side}
 use Rattle.sides.specs.Side.{system_in, related_to, steps_in}
 use Rattle.obligations.specs.declared.Run.{Run}
 use Rattle.obligations.specs.CheckAnswers.{labels_answer}
 use Rattle.obligations.specs.Judging.{Check, left_step, right_step, pair_checks, checks_by, Finding, nothing}
 use Rattle.obligations.specs.OnSides.{checks_in}
 use Rattle.sweeps.specs.declared.Tally.{Tally}
-use Rattle.sweeps.specs.declared.Progress.TheVariants.{On, Stop}
 use Rattle.sweeps.specs.Tallies.{total}
-use Rattle.sweeps.specs.SideVerdicts.{progress}
-use Rattle.sweeps.specs.SideVerdicts.{swept, verdict_in, pair_verdicts, row_verdicts, all_verdicts}
+use Rattle.sweeps.specs.SideVerdicts.{progress, swept, verdict_in, pair_verdicts, row_verdicts, all_verdicts}
 use Rattle.sweeps.proofs.ProgressLaws.{progress-on, progress-stop, progress-total}
 use Rattle.sweeps.proofs.SweepLaws.{swept-few}
 
@@ -34,7 +34,7 @@ map-map : {A B C : Type 0} (g : B → C) (f : A → B) (xs : List A) → map g (
 map-map g f [] = refl
 map-map g f (x ∷ xs) = ap (λ (l : List _). g (f x) ∷ l) (map-map g f xs)
 
-module _ (ours theirs certificate : List ℕ) (left right : Run) where
+module _ (ours theirs : Side) (certificate : List ℕ) (left right : Run) where
   abbrev verdict : Check → Verdict Finding
   verdict = verdict_in ours theirs certificate left right
 
@@ -64,10 +64,10 @@ module _ (ours theirs certificate : List ℕ) (left right : Run) where
     right_verdicts = swept theirs ours certificate right (record { side = 1; own = t; other = s })
 
     pair_is : pair s t
-        ≡ cond (eqb ((system_in ours).label s) ((system_in theirs).label t)) (go_on nothing) (refused_with (labels_answer s t)) ∷ left_verdicts ++ right_verdicts
+        ≡ cond (eqb ((system_in ours).label s) ((system_in theirs).label t)) (Ok nothing) (Err (labels_answer s t)) ∷ left_verdicts ++ right_verdicts
     unfolding pair_verdicts pair_checks verdict_in swept
     pair_is =
-        ap (λ (l : List (Verdict Finding)). cond (eqb ((system_in ours).label s) ((system_in theirs).label t)) (go_on nothing) (refused_with (labels_answer s t)) ∷ l)
+        ap (λ (l : List (Verdict Finding)). cond (eqb ((system_in ours).label s) ((system_in theirs).label t)) (Ok nothing) (Err (labels_answer s t)) ∷ l)
         (map-append verdict (map (left_step s t) (steps_in ours s)) (map (right_step s t) (steps_in theirs t))
         ∙ ap₂ ◌++◌
         (map-map verdict (left_step s t) (steps_in ours s))
@@ -81,7 +81,7 @@ module _ (ours theirs certificate : List ℕ) (left right : Run) where
         rw pair_is (omega arith)
 
     module _ (y : Tally) where
-      pub labels-differ : ((system_in ours).label s ≡ (system_in theirs).label t → ⊥) → progress (pair s t) y ≡ Stop (labels_answer s t)
+      pub labels-differ : ((system_in ours).label s ≡ (system_in theirs).label t → ⊥) → progress (pair s t) y ≡ Err (labels_answer s t)
       unfolding progress along
       labels-differ h = rw (pair_is, ne_eqb _ _ h)
 
@@ -90,10 +90,10 @@ module _ (ours theirs certificate : List ℕ) (left right : Run) where
         unfolding progress along
         labels-pass = rw (pair_is, eq-eqb _ _ e)
 
-        pub left-stops : (a : Answer) → progress left_verdicts y ≡ Stop a → progress (pair s t) y ≡ Stop a
+        pub left-stops : (a : Answer) → progress left_verdicts y ≡ Err a → progress (pair s t) y ≡ Err a
         left-stops a q = labels-pass ∙ progress-stop _ _ y a q
 
-        pub left-passes : (x : Tally) → progress left_verdicts y ≡ On x → progress (pair s t) y ≡ progress right_verdicts x
+        pub left-passes : (x : Tally) → progress left_verdicts y ≡ Ok x → progress (pair s t) y ≡ progress right_verdicts x
         left-passes x q = labels-pass ∙ progress-on _ _ y x q
 
   -- ---- a left state: the related states in the word that are left
@@ -160,11 +160,11 @@ module _ (ours theirs certificate : List ℕ) (left right : Run) where
       pub next-greater : t < 64 → t < first_bit (remove_bit word t)
       next-greater h = bits.first-rises word t w.word< w.first h
 
-      pub pair-stops : (a : Answer) → t < states' → progress (pair s t) y ≡ Stop a
-          → progress (row s) start ≡ Stop a
+      pub pair-stops : (a : Answer) → t < states' → progress (pair s t) y ≡ Err a
+          → progress (row s) start ≡ Err a
       pair-stops a h q = w.left_over ∙ ap (λ (x : List (Verdict Finding)). progress x y) (taken h) ∙ progress-stop _ _ y a q
 
-      pub pair-passes : (x : Tally) {word' t' : ℕ} → t < states' → progress (pair s t) y ≡ On x
+      pub pair-passes : (x : Tally) {word' t' : ℕ} → t < states' → progress (pair s t) y ≡ Ok x
           → word' ≡ remove_bit word t → t' ≡ first_bit word' → InRow start x word' t'
       pair-passes x h q d e =
           let n = next-greater (omega arith) in
@@ -180,7 +180,7 @@ module _ (ours theirs certificate : List ℕ) (left right : Run) where
             counted = omega arith;
           }
 
-      pub row-end : states' ≤ t → progress (row s) start ≡ On y
+      pub row-end : states' ≤ t → progress (row s) start ≡ Ok y
       unfolding progress along
       row-end h =
           w.left_over
@@ -216,10 +216,10 @@ module _ (ours theirs certificate : List ℕ) (left right : Run) where
         ≡ row s ++ join_from (suc s) (states) (row)
     row_next h = from_next s s (states) _ (omega arith) h (λ i b l. absurd (omega arith))
 
-    pub row-stops : (a : Answer) → s < states → progress (row s) y ≡ Stop a → progress all start ≡ Stop a
+    pub row-stops : (a : Answer) → s < states → progress (row s) y ≡ Err a → progress all start ≡ Err a
     row-stops a h q = w.left_over ∙ ap (λ (x : List (Verdict Finding)). progress x y) (row_next h) ∙ progress-stop _ _ y a q
 
-    pub row-passes : (x : Tally) → s < states → progress (row s) y ≡ On x → InRows start x (s + 1)
+    pub row-passes : (x : Tally) → s < states → progress (row s) y ≡ Ok x → InRows start x (s + 1)
     row-passes x h q =
         let c = progress-total _ y x q in
         let p = row-few s in
@@ -230,6 +230,6 @@ module _ (ours theirs certificate : List ℕ) (left right : Run) where
           counted = omega arith;
         }
 
-    pub rows_end : states ≤ s → progress all start ≡ On y
+    pub rows_end : states ≤ s → progress all start ≡ Ok y
     unfolding progress along
     rows_end h = w.left_over ∙ ap (λ (x : List (Verdict Finding)). progress x y) (from-none s (states) _ (λ i b l. absurd (omega arith)))

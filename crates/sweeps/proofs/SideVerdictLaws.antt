@@ -4,6 +4,7 @@ use mathlib.Core.Path.{◌≡◌, refl, ap, ap₂, ◌∙◌}
 use mathlib.Core.List.{List, [], ◌∷◌, map}
 use Rattle.lists.specs.Lists.{All}
 use Rattle.bisimulation.specs.Systems.{Ranks}
+use Rattle.sides.specs.declared.Side.{Side}
 use Rattle.sides.specs.Views.{view_in}
 use Rattle.obligations.specs.declared.Run.{Run}
 use Rattle.obligations.specs.Judging.{Check, checks, step_verdict, check_verdict}
@@ -15,7 +16,7 @@ map-all : {A B : Type 0} (f g : A → B) (xs : List A) → All (λ x. f x ≡ g 
 map-all f g [] a = refl
 map-all f g (x ∷ xs) a = ap₂ (λ (y : _) (l : List _). y ∷ l) a.0 (map-all f g xs a.1)
 
-module _ (ours theirs certificate : List ℕ) (left right : Run) (r : Ranks) (holding : Holding ours theirs certificate left right r) where
+module _ (ours theirs : Side) (certificate : List ℕ) (left right : Run) (r : Ranks) (holding : Holding ours theirs certificate left right r) where
   verdict-is : Check → Type 0
   verdict-is c = verdict_in ours theirs certificate left right c ≡ check_verdict (view_in ours theirs) r c
 

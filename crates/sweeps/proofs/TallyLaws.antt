@@ -1,4 +1,5 @@
 -- Laws of the tally: where the judge goes on to the end, it has counted each obligation under the clause that meets it first. Assumes nothing.
+use Rattle.std.specs.Prelude.{Ok}
 use Prim.Native.Nat.{ℕ, suc, ◌+◌}
 use mathlib.Core.Path.{◌≡◌, refl, ap}
 use mathlib.Core.Logic.{◌⊎◌, inl, inr, ⊎_elim}
@@ -6,7 +7,7 @@ use mathlib.Core.List.{List, [], ◌∷◌}
 use native.Mathlib.Omega.{arith}
 use Rattle.lists.specs.Lists.{Counts}
 use Rattle.bisimulation.specs.Systems.{View, Ranks, flip, swap}
-use Rattle.answers.specs.Verdicts.{go_on, along}
+use Rattle.answers.specs.Verdicts.{along}
 use Rattle.answers.proofs.VerdictLaws.{then-on, on_none}
 use Rattle.outcomes.specs.declared.Clause.{Clause}
 use Rattle.outcomes.specs.declared.Clause.TheVariants.{Step, Stutter, Match}
@@ -51,10 +52,10 @@ module _ (v : View) (r : Ranks) where
   found-total (right_step s t j) y (met_by k x) p = add_total y k
 
   -- the finding of a check that goes on
-  finding : (c : Check) (y z : Tally) → tallied (check_verdict v r c) y ≡ go_on z → (f : Finding) × (counted y f ≡ z) × Found v r c f
+  finding : (c : Check) (y z : Tally) → tallied (check_verdict v r c) y ≡ Ok z → (f : Finding) × (counted y f ≡ z) × Found v r c f
   finding c y z e = let q = then-on (check_verdict v r c) e in (q.0, cc q.2, (on_none q.1 (check-decided v r c)).0)
 
-  pub along-counts : (clause : Clause) (cs : List Check) (y z : Tally) → along (λ c. tallied (check_verdict v r c)) cs y ≡ go_on z
+  pub along-counts : (clause : Clause) (cs : List Check) (y z : Tally) → along (λ c. tallied (check_verdict v r c)) cs y ≡ Ok z
       → (n : ℕ) × Counts (CheckMetBy v r clause) cs n × (count_of clause z ≡ count_of clause y + n)
   unfolding along
   along-counts clause [] y z e = let q : y ≡ z = cc e in (0, refl, rw q (omega arith))
@@ -68,7 +69,7 @@ module _ (v : View) (r : Ranks) where
       (λ p. (k.0, inr (p.0, k.1), omega (arith, p.1, g, k.2)))
       (found-counts clause c y f.0 f.2)
 
-  pub along-total : (cs : List Check) (y z : Tally) → along (λ c. tallied (check_verdict v r c)) cs y ≡ go_on z → total z ≡ total y + count_obligations cs
+  pub along-total : (cs : List Check) (y z : Tally) → along (λ c. tallied (check_verdict v r c)) cs y ≡ Ok z → total z ≡ total y + count_obligations cs
   unfolding along count_obligations
   along-total [] y z e = let q : y ≡ z = cc e in rw q (omega arith)
   along-total (c ∷ cs) y z e =

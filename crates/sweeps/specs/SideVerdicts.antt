@@ -1,9 +1,10 @@
 -- How the judge goes on over verdicts, and the verdicts on the checks, as they are read off two sides and a certificate.
-use Rattle.std.specs.Prelude.{ℕ, cond, List, [], map, eqb}
+use Rattle.std.specs.Prelude.{ℕ, cond, List, [], map, eqb, Ok, Err}
 use Rattle.lists.specs.Lists.{join_below}
 use Rattle.words.specs.Bits.{has_bit}
-use Rattle.answers.specs.Verdicts.{Verdict, go_on, refused_with, along}
+use Rattle.answers.specs.Verdicts.{Verdict, along}
 use Rattle.answers.specs.declared.Answer.{Answer}
+use Rattle.sides.specs.declared.Side.{Side}
 use Rattle.sides.specs.Side.{system_in, related_to, steps_in}
 use Rattle.obligations.specs.declared.Place.{Place}
 use Rattle.obligations.specs.declared.Run.{Run}
@@ -11,41 +12,35 @@ use Rattle.obligations.specs.CheckAnswers.{labels_answer, left_state, right_stat
 use Rattle.obligations.specs.Judging.{Check, labels_of, left_step, right_step, pair_checks, Finding, nothing, step_verdict}
 use Rattle.obligations.specs.OnSides.{checks_in, obligation_in}
 use Rattle.sweeps.specs.declared.Tally.{Tally}
-use Rattle.sweeps.specs.declared.Progress.{Progress}
-use Rattle.sweeps.specs.declared.Progress.TheVariants.{On, Stop}
 use Rattle.sweeps.specs.Tallies.{tallied, acceptance}
 
 -- ---- how the judge goes on
 
--- The code's enum for it.
-abbrev pub as_progress : Verdict Tally → Progress
-as_progress (go_on y) = On y
-as_progress (refused_with answer) = Stop answer
-
-unfoldable pub progress : List (Verdict Finding) → Tally → Progress
-progress verdicts y = as_progress (along tallied verdicts y)
+-- What was counted, or the first answer that refuses.
+unfoldable pub progress : List (Verdict Finding) → Tally → Verdict Tally
+progress verdicts y = along tallied verdicts y
 
 -- The answer at the end of all checks.
-abbrev pub end_answer : ℕ → Progress → Answer
-end_answer pairs (On y) = acceptance pairs y
-end_answer pairs (Stop answer) = answer
+abbrev pub end_answer : ℕ → Verdict Tally → Answer
+end_answer pairs (Ok y) = acceptance pairs y
+end_answer pairs (Err answer) = answer
 
 -- ---- what is read off
 
 -- The verdict on the obligation of our step j at the place.
-unfoldable pub step_in : (ours theirs certificate : List ℕ) → Run → Place → ℕ → Verdict Finding
+unfoldable pub step_in : (ours theirs : Side) (certificate : List ℕ) → Run → Place → ℕ → Verdict Finding
 step_in ours theirs certificate run place j =
     step_verdict place.side (left_state place) (right_state place) j (obligation_in ours theirs certificate run j place.other)
 
 -- The verdicts on our steps from the place's own state.
-unfoldable pub swept : (ours theirs certificate : List ℕ) → Run → Place → List (Verdict Finding)
+unfoldable pub swept : (ours theirs : Side) (certificate : List ℕ) → Run → Place → List (Verdict Finding)
 swept ours theirs certificate run place = map (step_in ours theirs certificate run place) (steps_in ours place.own)
 
 -- Each side has its own runs of ranks.
-module _ (ours theirs certificate : List ℕ) (left right : Run) where
+module _ (ours theirs : Side) (certificate : List ℕ) (left right : Run) where
   -- The verdict on a check.
   unfoldable pub verdict_in : Check → Verdict Finding
-  verdict_in (labels_of s t) = cond (eqb ((system_in ours).label s) ((system_in theirs).label t)) (go_on nothing) (refused_with (labels_answer s t))
+  verdict_in (labels_of s t) = cond (eqb ((system_in ours).label s) ((system_in theirs).label t)) (Ok nothing) (Err (labels_answer s t))
   verdict_in (left_step s t j) = step_in ours theirs certificate left (record { side = 0; own = s; other = t }) j
   verdict_in (right_step s t j) = step_in theirs ours certificate right (record { side = 1; own = t; other = s }) j
 

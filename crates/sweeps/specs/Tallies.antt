@@ -1,6 +1,6 @@
 -- What the judge counts: the obligations that each clause meets, and the answer of an acceptance.
-use Rattle.std.specs.Prelude.{ℕ, ◌+◌}
-use Rattle.answers.specs.Verdicts.{Verdict, go_on, ◌and_then◌}
+use Rattle.std.specs.Prelude.{ℕ, ◌+◌, Ok}
+use Rattle.answers.specs.Verdicts.{Verdict, ◌and_then◌}
 use Rattle.answers.specs.declared.Answer.{Answer}
 use Rattle.obligations.specs.Judging.{Finding, nothing, met_by}
 use Rattle.outcomes.specs.declared.Clause.{Clause}
@@ -32,7 +32,7 @@ counted y nothing = y
 counted y (met_by clause x) = add_to y clause
 
 abbrev pub tallied : Verdict Finding → Tally → Verdict Tally
-tallied verdict y = verdict and_then λ found. go_on (counted y found)
+tallied verdict y = verdict and_then λ found. Ok (counted y found)
 
 -- The answer of an acceptance: the related pairs, and the obligations met by 2a, 2b and 2c.
 abbrev pub acceptance : ℕ → Tally → Answer

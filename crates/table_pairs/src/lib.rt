@@ -2,10 +2,10 @@
 #![tactic(auto)]
 
 ghost use Rattle.std.specs.Prelude.{◌≡◌};
-ghost use Rattle.table_pairs.specs.TablePairs.{same_kind, tables_verdict, as_tables_read, tables_refusal};
+ghost use Rattle.table_pairs.specs.TablePairs.{same_kind, tables_verdict};
 
 use answers::Answer;
-use table_reader::{Known, TableRead, read_table, table_answer};
+use table_reader::{Known, read_table};
 use tables::{Head, is_keyed};
 
 // The headers of the two tables.
@@ -15,64 +15,33 @@ pub struct Heads {
     pub right: Head,
 }
 
-// What reading two tables gives.
-#[derive(Clone, Copy)]
-pub enum TablesRead {
-    Good(Heads),
-    Refused(Answer),
-}
-
 // Whether the steps of both have keys, or those of neither.
+#[tactic(auto, unfolding(crate::specs::TablePairs::same_kind))]
 fn same_kind(left: &[u8], right: &[u8]) -> bool
     ensures { result ≡ same_kind left.now right.now }
 {
-    if is_keyed(left) {
-        return is_keyed(right);
-    }
-    !is_keyed(right)
+    is_keyed(left) == is_keyed(right)
 }
 
-// Reads the left table and the right table, which are of one kind, and of those that are known.
-pub fn read_tables(left: &[u8], right: &[u8], known: Known) -> TablesRead
-    ensures { result ≡ as_tables_read (tables_verdict known left.now right.now) }
+// Reads the left table and the right table, which are of one kind, and of those that are known. Each read is taken apart by let else: the product's forms
+// ask for it (docs/DECISIONS.md 14).
+#[tactic(auto, unfolding(crate::specs::TablePairs::tables_verdict))]
+pub fn read_tables(left: &[u8], right: &[u8], known: Known) -> Result<Heads, Answer>
+    ensures { result ≡ tables_verdict known left.now right.now }
 {
     let first = read_table(left, known);
-    let TableRead::Good(head) = first else {
-        return TablesRead::Refused(table_answer(first, 0));
+    let Ok(head) = first else {
+        return Err(first.unwrap_err().answer(0));
     };
     let second = read_table(right, known);
-    let TableRead::Good(head2) = second else {
-        return TablesRead::Refused(table_answer(second, 1));
+    let Ok(head2) = second else {
+        return Err(second.unwrap_err().answer(1));
     };
-    if same_kind(left, right) {
-        return TablesRead::Good(Heads {
-            left: head,
-            right: head2,
-        });
+    if !same_kind(left, right) {
+        return Err(Answer::of(30, 1, 0));
     }
-    TablesRead::Refused(Answer {
-        code: 30,
-        file: 1,
-        a: 0,
-        b: 0,
-        c: 0,
-        d: 0,
+    Ok(Heads {
+        left: head,
+        right: head2,
     })
-}
-
-// The answer of a read that is refused; for any other it is blank.
-pub fn tables_answer(read: TablesRead) -> Answer
-    ensures { result ≡ tables_refusal read }
-{
-    match read {
-        TablesRead::Refused(answer) => answer,
-        TablesRead::Good(_) => Answer {
-            code: 0,
-            file: 0,
-            a: 0,
-            b: 0,
-            c: 0,
-            d: 0,
-        },
-    }
 }

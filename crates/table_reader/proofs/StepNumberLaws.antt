@@ -1,5 +1,6 @@
 -- The same steps have the same numbers: two tables without keys whose steps rise, and of which each has the other's steps, have each step at the same place.
 -- Assumes nothing.
+use Rattle.std.specs.Prelude.{Ok}
 use Prim.Native.Nat.{ℕ, ◌+◌, ◌*◌, ◌<◌}
 use mathlib.Core.Path.{◌≡◌, refl, ap₂}
 use mathlib.Core.Logic.{◌↔◌, ⊎_elim}
@@ -11,7 +12,6 @@ use Rattle.bisimulation.specs.Systems.{Step}
 use Rattle.tables.specs.declared.Head.{Head}
 use Rattle.tables.specs.Table.{keyed, steps_of, from_in, to_in}
 use Rattle.tables.specs.Model.{system_of}
-use Rattle.table_reader.specs.declared.TableRead.TheVariants.{Good}
 use Rattle.table_reader.specs.TableReading.{read_table}
 use Rattle.table_reader.specs.TableCauses.{StepsRise}
 use Rattle.table_reader.proofs.OrderLaws.{ends-greater, steps-rise}
@@ -22,12 +22,12 @@ as_number : List ℕ → ℕ → ℕ
 as_number s j = from_in s j * 64 + to_in s j
 
 -- an end is below 64
-to-small : (s : List ℕ) {h : Head} → read_table s ≡ Good h → (j : ℕ) → j < steps_of s → to_in s j < 64
+to-small : (s : List ℕ) {h : Head} → read_table s ≡ Ok h → (j : ℕ) → j < steps_of s → to_in s j < 64
 unfolding system_of
 to-small s e j l = let a = (table-formed s e).to< j l in let b = (table-ok s e).states-le in omega arith
 
 -- rising steps are rising numbers
-numbers-rise : (s : List ℕ) {h : Head} → read_table s ≡ Good h → keyed s ≡ false → StepsRise s → Rise (as_number s) (steps_of s)
+numbers-rise : (s : List ℕ) {h : Head} → read_table s ≡ Ok h → keyed s ≡ false → StepsRise s → Rise (as_number s) (steps_of s)
 unfolding as_number
 numbers-rise s e plain v i j a l =
     let b = to-small s e i (omega arith) in
@@ -42,7 +42,7 @@ numbers-within s r f j l =
     let p = f (from_in s j) (to_in s j) (j, l, refl, refl) in
     (p.0, p.1, ap₂ (λ (x y : ℕ). x * 64 + y) p.2 p.3)
 
-module _ (s r : List ℕ) {h k : Head} (e : read_table s ≡ Good h) (d : read_table r ≡ Good k) (p : keyed s ≡ false) (q : keyed r ≡ false)
+module _ (s r : List ℕ) {h k : Head} (e : read_table s ≡ Ok h) (d : read_table r ≡ Ok k) (p : keyed s ≡ false) (q : keyed r ≡ false)
     (v : StepsRise s) (w : StepsRise r) (same : (a b : ℕ) → Step (system_of s) a b ↔ Step (system_of r) a b) where
   both : (steps_of s ≡ steps_of r) × ((j : ℕ) → j < steps_of s → as_number s j ≡ as_number r j)
   both =

@@ -1,5 +1,7 @@
 -- The table reader's part of demand 1: a table is refused with the six numbers of the first cause that applies to its bytes, and read where none does.
 -- The reader is a chain of tests in the order of the causes, and each test decides its cause. Assumes nothing.
+use Rattle.std.specs.Prelude.{Result, Ok, Err}
+use Rattle.refusals.specs.declared.TableRefusal.{TableRefusal}
 use Prim.Native.Nat.{ℕ}
 use mathlib.Core.Path.{◌≡◌, refl, ap, ◌∙◌, subst}
 use mathlib.Core.Logic.{inl}
@@ -13,7 +15,7 @@ use Rattle.lists.proofs.JoinLaws.{all_append, all_join, all_map}
 use Rattle.answers.specs.declared.Answer.{Answer}
 use Rattle.answers.specs.Numbers.{six_numbers}
 use Rattle.answers.specs.Causes.{Cause, only, FirstCause, NoCause, Numbered, allows}
-use Rattle.answers.specs.Verdicts.{Verdict, go_on, ◌and_then◌}
+use Rattle.answers.specs.Verdicts.{Verdict, ◌and_then◌}
 use Rattle.answers.proofs.CauseLaws.{first_holds, numbered-append, numbered_below, numbered-only, allowed}
 use Rattle.answers.proofs.DecideLaws.{test-decides, ltb-decides, leb-decides, eqb-decides, not-decides, and-decides}
 use Rattle.answers.proofs.VerdictLaws.{
@@ -44,8 +46,6 @@ use Rattle.refusals.specs.declared.TableRefusal.TheVariants.{
 }
 use Rattle.table_reader.specs.declared.Known.{Known}
 use Rattle.table_reader.specs.declared.Known.TheVariants.{Both, Plain}
-use Rattle.table_reader.specs.declared.TableRead.{TableRead}
-use Rattle.table_reader.specs.declared.TableRead.TheVariants.{Good, Refused}
 use Rattle.table_reader.specs.TableReading.{head_of, read_length, read_sizes, read_header, read_steps, with_steps, read_known, read_table}
 use Rattle.table_reader.specs.TableVerdicts.{table_verdict}
 use Rattle.table_reader.specs.TableCauses.{
@@ -70,43 +70,43 @@ use Rattle.table_reader.proofs.TestLaws.{
 }
 
 -- a verdict that goes on is that of a header
-pub on-good : (file : ℕ) (x : TableRead) {h : Head} → table_verdict file x ≡ go_on h → x ≡ Good h
-on-good file (Good k) e = ap Good (cc e)
-on-good file (Refused r) e = absurd (let z : ◌≡◌ {A = ℕ} 0 1 = cc e in omega arith)
+pub on-good : (file : ℕ) (x : Result Head TableRefusal) {h : Head} → table_verdict file x ≡ Ok h → x ≡ Ok h
+on-good file (Ok k) e = ap Ok (cc e)
+on-good file (Err r) e = cc e
 
 module _ (known : Known) (file : ℕ) (s : List ℕ) where
-  abbrev on : TableRead → Verdict Head
+  abbrev on : Result Head TableRefusal → Verdict Head
   on = table_verdict file
 
   -- the header's tests decide its causes
   header-decided : Decided (λ h. h ≡ head_of s) (header_causes known file s) (on (read_header known s))
   unfolding read_header read_sizes read_length
   header-decided =
-      decided-test on (Refused Short) _ (ltb-decides (length s) 9) refl
-      (decided-test on (Refused Magic) _ (not-decides (known-decides known s)) refl
-      (decided-test on (Refused Version) _ (not-decides (version-decides s)) refl
-      (decided-test on (Refused Short) _ (ltb-decides (length s) (layout_in s).header) refl
-      (decided-test on (Refused States) _ (not-decides (states-decides (states_of s))) refl
-      (decided-test on (Refused Start) _ (and-decides (not-decides (test-decides (start_word s))) (leb-decides (states_of s) (start_of s))) refl
-      (decided-test on (Refused Starts) _ (and-decides (test-decides (start_word s)) (starts-decides (starts_of s) (states_of s))) refl
-      (decided-test on (Refused Steps) _ (ltb-decides 256 (steps_of s)) refl
-      (decided-test on (Refused Length) _ (not-decides (eqb-decides (length s) (table_length s))) refl
+      decided-test on (Err Short) _ (ltb-decides (length s) 9) refl
+      (decided-test on (Err Magic) _ (not-decides (known-decides known s)) refl
+      (decided-test on (Err Version) _ (not-decides (version-decides s)) refl
+      (decided-test on (Err Short) _ (ltb-decides (length s) (layout_in s).header) refl
+      (decided-test on (Err States) _ (not-decides (states-decides (states_of s))) refl
+      (decided-test on (Err Start) _ (and-decides (not-decides (test-decides (start_word s))) (leb-decides (states_of s) (start_of s))) refl
+      (decided-test on (Err Starts) _ (and-decides (test-decides (start_word s)) (starts-decides (starts_of s) (states_of s))) refl
+      (decided-test on (Err Steps) _ (ltb-decides 256 (steps_of s)) refl
+      (decided-test on (Err Length) _ (not-decides (eqb-decides (length s) (table_length s))) refl
       (decided-none refl)))))))))
 
   -- and those of the steps theirs
   steps-decided : Decided (λ h. h ≡ head_of s) (end_causes file s ++ order_causes file s) (on (read_steps (head_of s) (steps_part s)))
   unfolding read_steps
   steps-decided =
-      decided-search on (steps_of s) (six_numbers 8 file) (λ j. Refused (StepEnd j)) _ (outside-decides (format_in s) (steps_part s) (states_of s)) (λ j. refl)
+      decided-search on (steps_of s) (six_numbers 8 file) (λ j. Err (StepEnd j)) _ (outside-decides (format_in s) (steps_part s) (states_of s)) (λ j. refl)
       (decided-either on {xs = not_greater_causes file s} {ys = doubled_causes file s} _ _ _ (test-decides (layout_in s).rising)
-      (decided-end (decided-search on (steps_of s) (six_numbers 24 file) (λ j. Refused (NotGreater j)) _ (not-greater-decides s) (λ j. refl)
+      (decided-end (decided-search on (steps_of s) (six_numbers 24 file) (λ j. Err (NotGreater j)) _ (not-greater-decides s) (λ j. refl)
       (decided-none refl)))
-      (decided-end (decided-search on (steps_of s) (six_numbers 9 file) (λ j. Refused (Doubled j)) _ (doubled-decides (format_in s) (steps_part s)) (λ j. refl)
+      (decided-end (decided-search on (steps_of s) (six_numbers 9 file) (λ j. Err (Doubled j)) _ (doubled-decides (format_in s) (steps_part s)) (λ j. refl)
       (decided-none refl))))
 
-  header-then-steps : (x : TableRead) → (on x and_then λ h. on (read_steps h (steps_part s))) ≡ on (with_steps s x)
-  header-then-steps (Good h) = refl
-  header-then-steps (Refused r) = refl
+  header-then-steps : (x : Result Head TableRefusal) → (on x and_then λ h. on (read_steps h (steps_part s))) ≡ on (with_steps s x)
+  header-then-steps (Ok h) = refl
+  header-then-steps (Err r) = refl
 
   -- the reader goes on with the header where no cause applies, and refuses with the numbers of the first that does
   pub table-decided : Decided (λ h. h ≡ head_of s) (known_causes known file s) (on (read_known known s))
@@ -116,23 +116,23 @@ module _ (known : Known) (file : ℕ) (s : List ℕ) where
       (decided-then (on (read_header known s)) header-decided (λ h e n. rw e steps-decided))
 
   -- a good header is what the bytes say, and no cause of the header applies
-  pub header-none : {h : Head} → read_header known s ≡ Good h → (h ≡ head_of s) × NoCause (header_causes known file s)
+  pub header-none : {h : Head} → read_header known s ≡ Ok h → (h ≡ head_of s) × NoCause (header_causes known file s)
   header-none e = on_none (ap on e) header-decided
 
   -- what is read is the header, and no cause applies
-  pub good_none : {h : Head} → read_known known s ≡ Good h → (h ≡ head_of s) × NoCause (known_causes known file s)
+  pub good_none : {h : Head} → read_known known s ≡ Ok h → (h ≡ head_of s) × NoCause (known_causes known file s)
   good_none e = on_none (ap on e) table-decided
 
-  pub none-good : NoCause (known_causes known file s) → read_known known s ≡ Good (head_of s)
-  none-good n = let q = none-on (on (read_known known s)) table-decided n in on-good file (read_known known s) (q.1 ∙ ap go_on q.2)
+  pub none-good : NoCause (known_causes known file s) → read_known known s ≡ Ok (head_of s)
+  none-good n = let q = none-on (on (read_known known s)) table-decided n in on-good file (read_known known s) (q.1 ∙ ap Ok q.2)
 
 -- a table that is read is well formed, whatever the kinds that are known and whichever file it is
-pub good-formed : (known : Known) (s : List ℕ) {h : Head} → read_known known s ≡ Good h → WellFormedTable s
+pub good-formed : (known : Known) (s : List ℕ) {h : Head} → read_known known s ≡ Ok h → WellFormedTable s
 good-formed Both s e = (good_none Both 0 s e).1
 good-formed Plain s e = let n = (good_none Plain 0 s e).1 in (n.0, (λ unknown. n.1.0 (λ m. unknown (inl m)), n.1.1))
 
 -- and the other way round where both kinds are known
-pub formed-good : (s : List ℕ) → WellFormedTable s → read_table s ≡ Good (head_of s)
+pub formed-good : (s : List ℕ) → WellFormedTable s → read_table s ≡ Ok (head_of s)
 formed-good = none-good Both 0
 
 -- ---- the numbers are 1 to 9, 24 and 28, with the file given

@@ -1,5 +1,6 @@
 -- What a good read says: the header's fields and limits (`HeadOk`), the lengths of the two parts, that the system that the bytes give is well
 -- formed (`TableFormed`), and which state the start is. All of it follows from the fact that no cause for turning the table away applies. Assumes nothing.
+use Rattle.std.specs.Prelude.{Ok}
 use Prim.Native.Nat.{ℕ, ◌*◌, ◌^◌, ◌≤◌, ◌<◌}
 use mathlib.Core.Path.{◌≡◌, sym, ap, ◌∙◌, subst}
 use mathlib.Core.Logic.{inl, inr, ⊎_elim}
@@ -19,7 +20,6 @@ use Rattle.words.specs.Bits.{has_bit, add_bit, first_bit}
 use Rattle.words.proofs.BitLaws.{has-add-below, has-empty, from-none}
 use Rattle.bisimulation.specs.Systems.{NoTwice}
 use Rattle.tables.specs.declared.Head.{Head}
-use Rattle.table_reader.specs.declared.TableRead.TheVariants.{Good}
 use Rattle.tables.specs.Table.{keyed, format_in, layout_in, states_of, start_of, starts_of}
 use Rattle.tables.specs.Table.{start_word, initial_of, steps_of, steps_at, table_length, labels_part, steps_part}
 use Rattle.table_reader.specs.declared.Known.{Known}
@@ -71,12 +71,12 @@ head_ok known s {h} e n =
     }
 
 -- and so where a table is read
-pub table-ok : (s : List ℕ) {h : Head} → read_table s ≡ Good h → HeadOk s h
+pub table-ok : (s : List ℕ) {h : Head} → read_table s ≡ Ok h → HeadOk s h
 table-ok s e = let g = good_none Both 0 s e in head_ok Both s g.0 (append-none (header_causes Both 0 s) (end_causes 0 s ++ order_causes 0 s) g.1).0
 
 -- ---- the two parts
 
-module _ (s : List ℕ) {h : Head} (good : read_table s ≡ Good h) where
+module _ (s : List ℕ) {h : Head} (good : read_table s ≡ Ok h) where
   pub labels_length : length (labels_part s) ≡ states_of s * (layout_in s).label
   unfolding labels_part steps_at table_length
   labels_length = let o = (table-ok s good).long in part_length s (layout_in s).header (states_of s * (layout_in s).label) (omega arith)
@@ -88,7 +88,7 @@ module _ (s : List ℕ) {h : Head} (good : read_table s ≡ Good h) where
 -- ---- the system
 
 -- no cause of the steps applies
-pub steps-none : (s : List ℕ) {h : Head} → read_table s ≡ Good h → NoCause (end_causes 0 s) × NoCause (order_causes 0 s)
+pub steps-none : (s : List ℕ) {h : Head} → read_table s ≡ Ok h → NoCause (end_causes 0 s) × NoCause (order_causes 0 s)
 steps-none s e =
     append-none (end_causes 0 s) (order_causes 0 s) (append-none (header_causes Both 0 s) (end_causes 0 s ++ order_causes 0 s) (good_none Both 0 s e).1).1
 
@@ -105,7 +105,7 @@ pub record TableFormed (s : List ℕ) : Type 0 where
   pub initial< : (t : ℕ) → T ((system_of s).initial t) → t < (system_of s).states
   pub one-initial : start_word s ≡ false → (t : ℕ) → (system_of s).initial t ≡ eqb t (start_of s)
 
-pub table-formed : (s : List ℕ) {h : Head} → read_table s ≡ Good h → TableFormed s
+pub table-formed : (s : List ℕ) {h : Head} → read_table s ≡ Ok h → TableFormed s
 unfolding system_of initial_of
 table-formed s {h} e =
     record {
@@ -151,7 +151,7 @@ table-formed s {h} e =
         (subst (λ (x : ℕ). T (has_bit x t)) e b)
 
 -- of one start, the smallest initial state is the start
-pub start_first : (s : List ℕ) {h : Head} → read_table s ≡ Good h → start_word s ≡ false → first_bit h.initial.0 ≡ start_of s
+pub start_first : (s : List ℕ) {h : Head} → read_table s ≡ Ok h → start_word s ≡ false → first_bit h.initial.0 ≡ start_of s
 unfolding first_bit system_of
 start_first s e w =
     let o = table-ok s e in

@@ -7,3 +7,4 @@ pub mod VerdictLaws
 pub mod WriteCauseLaws
 pub mod ReadBackLaws
 pub mod WrittenExamples
+mod FindLaws

@@ -1,6 +1,7 @@
 -- Laws of the writer's verdict: which it is by the tests so far, in their order; and that the words are ready where they all pass. Assumes nothing.
+use Rattle.std.specs.Prelude.{Err}
 use Prim.Native.Nat.{ℕ, ◌*◌, ◌≤◌, ◌<◌}
-use mathlib.Core.Path.{◌≡◌, ◌∙◌, subst}
+use mathlib.Core.Path.{◌≡◌, sym, ◌∙◌, subst}
 use mathlib.Core.Bool.{Bool, true, false, not}
 use mathlib.Core.List.{List}
 use native.Mathlib.Omega.{arith}
@@ -9,12 +10,12 @@ use lib.ListN.{length}
 use borrow.Author.Tests.{lt-ltb, le-ltb}
 use Rattle.lists.specs.Below.{first_below}
 use Rattle.lists.specs.Lists.{stands_in, put_front}
-use Rattle.lists.proofs.BelowLaws.{first-bound, first-least}
+use Rattle.lists.proofs.BelowLaws.{first-least, first-bound}
 use Rattle.lists.proofs.BoolLaws.{T_true, not-T-false}
 use Rattle.lists.proofs.KeptLaws.{kept-length, different-count}
 use Rattle.answers.specs.Numbers.{six_numbers}
 use Rattle.answers.specs.declared.Answer.{Answer}
-use Rattle.answers.specs.Verdicts.{Verdict, refused_with, passed, pass_if, room_verdict, first_of}
+use Rattle.answers.specs.Verdicts.{Verdict, passed, pass_if, room_verdict, first_of}
 use Rattle.answers.proofs.VerdictLaws.{test-hit, test-none}
 use Rattle.words.specs.declared.Row.{Row}
 use Rattle.table_reader.specs.EndsSeen.{EndsBelow, EndsSeen}
@@ -23,6 +24,7 @@ use Rattle.table_writer.specs.TableFile.{steps_in_order, table_file, file_length
 use Rattle.table_writer.specs.Writing.{step_at, from_at, to_at, end_outside, equals_earlier, write_verdict, write_answer, write_output}
 use Rattle.table_writer.specs.WriteCauses.{EqualsEarlier}
 use Rattle.table_writer.specs.Words.{Ready}
+use Rattle.table_writer.specs.Noting.{Noted, Writable}
 use Rattle.table_writer.proofs.TestLaws.{earlier-decides, outside-none}
 use Rattle.table_writer.proofs.WordLaws.{words-in-order}
 
@@ -32,7 +34,7 @@ module _ (m : ℕ) (test : ℕ → Bool) (answer : ℕ → Answer) {k : ℕ} (e 
   abbrev search-verdict : Verdict (Unit {0})
   search-verdict = first_of m (λ j. pass_if (not (test j)) (answer j))
 
-  first-refuses : k < m → search-verdict ≡ refused_with (answer k)
+  first-refuses : k < m → search-verdict ≡ Err (answer k)
   first-refuses = test-hit m _ test answer (λ i h. rw (T_true (test i) h)) (λ i h. rw (not-T-false (test i) h)) e
 
   first_passes : m ≤ k → search-verdict ≡ passed
@@ -44,17 +46,17 @@ module _ (marks : List ℕ) (starts : ℕ) (steps output : List ℕ) where
   abbrev verdict : Verdict (Unit {0})
   verdict = write_verdict marks starts steps output
 
-  pub refused-4 : states_fit (length marks) ≡ false → verdict ≡ refused_with (six_numbers 4 3 0)
+  pub refused-4 : states_fit (length marks) ≡ false → verdict ≡ Err (six_numbers 4 3 0)
   unfolding write_verdict
   refused-4 h = rw h
 
   module _ (h4 : states_fit (length marks) ≡ true) where
-    pub refused-28 : wrong_starts starts (length marks) ≡ true → verdict ≡ refused_with (six_numbers 28 3 0)
+    pub refused-28 : wrong_starts starts (length marks) ≡ true → verdict ≡ Err (six_numbers 28 3 0)
     unfolding write_verdict
     refused-28 h = rw (h4, h)
 
     module _ (h28 : wrong_starts starts (length marks) ≡ false) where
-      pub refused-6 : 256 < length steps → verdict ≡ refused_with (six_numbers 6 3 0)
+      pub refused-6 : 256 < length steps → verdict ≡ Err (six_numbers 6 3 0)
       unfolding write_verdict
       refused-6 h = rw (h4, h28, lt-ltb 256 (length steps) h)
 
@@ -62,7 +64,7 @@ module _ (marks : List ℕ) (starts : ℕ) (steps output : List ℕ) where
         few : ltb 256 (length steps) ≡ false
         few = le-ltb 256 (length steps) h6
 
-        pub refused-8 : o < length steps → verdict ≡ refused_with (six_numbers 8 3 o)
+        pub refused-8 : o < length steps → verdict ≡ Err (six_numbers 8 3 o)
         unfolding write_verdict
         refused-8 h = rw (h4, h28, few, first-refuses (length steps) (end_outside (length marks) steps) (six_numbers 8 3) e8 h)
 
@@ -70,7 +72,7 @@ module _ (marks : List ℕ) (starts : ℕ) (steps output : List ℕ) where
           inside : first_of (length steps) (λ j. pass_if (not (end_outside (length marks) steps j)) (six_numbers 8 3 j)) ≡ passed
           inside = first_passes (length steps) (end_outside (length marks) steps) (six_numbers 8 3) e8 h8
 
-          pub refused-9 : t < length steps → verdict ≡ refused_with (six_numbers 9 3 t)
+          pub refused-9 : t < length steps → verdict ≡ Err (six_numbers 9 3 t)
           unfolding write_verdict
           refused-9 h = rw (h4, h28, few, inside, first-refuses (length steps) (equals_earlier steps) (six_numbers 9 3) e9 h)
 
@@ -83,7 +85,7 @@ module _ (marks : List ℕ) (starts : ℕ) (steps output : List ℕ) where
             by-room = rw (h4, h28, few, inside, once)
 
             pub refused-21 : length output < file_length (length marks) (length steps)
-                → verdict ≡ refused_with (six_numbers 21 3 (file_length (length marks) (length steps)))
+                → verdict ≡ Err (six_numbers 21 3 (file_length (length marks) (length steps)))
             unfolding room_verdict
             refused-21 h = by-room ∙ rw (lt-ltb (length output) (file_length (length marks) (length steps)) h)
 
@@ -92,7 +94,7 @@ module _ (marks : List ℕ) (starts : ℕ) (steps output : List ℕ) where
             accepted h = by-room ∙ rw (le-ltb (length output) (file_length (length marks) (length steps)) h)
 
   -- a refusal is answered, and leaves the output as it was
-  pub refused-is : {r a : Answer} → r ≡ a → verdict ≡ refused_with a
+  pub refused-is : {r a : Answer} → r ≡ a → verdict ≡ Err a
       → (r ≡ write_answer marks starts steps output) × (output ≡ write_output marks starts steps output)
   unfolding write_answer write_output
   refused-is e v = (rw v e, rw v)
@@ -127,4 +129,18 @@ ready marks steps ends output {o} {t} few e8 h8 e9 h9 noted room =
       once = once-each (length marks) steps (outside-none (length marks) (length marks) steps e8 h8 (omega arith))
           (λ j l p. first-least (length steps) (equals_earlier steps) j (omega arith) ((earlier-decides steps j).complete p));
       room = room;
+    }
+
+-- where all tests pass, the words have the steps, and an output is refused for its room alone
+pub writable : (marks : List ℕ) (starts : ℕ) (steps : List ℕ) {ends : List Row} {o : ℕ}
+    → states_fit (length marks) ≡ true → wrong_starts starts (length marks) ≡ false → length steps ≤ 256 → length marks ≤ 64
+    → o ≡ first_below (length steps) (end_outside (length marks) steps) → length steps ≤ o → Noted steps ends → Writable marks starts steps ends
+writable marks starts steps fit right short few e8 h8 noted =
+    record {
+      few = few;
+      few_steps = short;
+      in_order = words-in-order steps noted.seen (outside-none (length marks) 64 steps e8 h8 few) (length marks) few;
+      once = once-each (length marks) steps (outside-none (length marks) (length marks) steps e8 h8 (omega arith))
+          (λ j l p. first-least (length steps) (equals_earlier steps) j (rw noted.once l) ((earlier-decides steps j).complete p));
+      by_room = λ output. by-room marks starts steps output fit right short e8 h8 (sym noted.once) (omega arith);
     }

@@ -2,3 +2,4 @@ pub mod TableFile
 pub mod Writing
 pub mod WriteCauses
 pub mod Words
+pub mod Noting

@@ -23,7 +23,10 @@ to_at steps j = step_at steps j % 256
 abbrev pub StepGiven : List ℕ → (s u : ℕ) → Type 0
 StepGiven steps s u = (j : ℕ) × (j < length steps) × (from_at steps j ≡ s) × (to_at steps j ≡ u)
 
--- An end of step j is n or more.
+-- An end of a step is n or more, and of step j.
+abbrev pub step_outside : (n step : ℕ) → Bool
+step_outside n step = leb n (step / 256) || leb n (step % 256)
+
 unfoldable pub end_outside : (n : ℕ) (steps : List ℕ) → ℕ → Bool
 end_outside n steps j = leb n (from_at steps j) || leb n (to_at steps j)
 

@@ -43,22 +43,13 @@ of_format Keyed = tt
 pub layout-fits : (f : Format) {l : Layout} → l ≡ layout_of f → LayoutFits l
 layout-fits f e = rw e (told (layout_of f) (of_format f))
 
--- item i of w bytes in a part of n bytes, as many as a slice may have: where its first, second and third byte are past the end, and that their places fit
+-- item i of w bytes in a part of n bytes, as many as a slice may have: where it is past the end, and that the places of its first three bytes fit
 module _ (i n : ℕ) {w : ℕ} (least : 2 ≤ w) (most : w ≤ 4) where
   pub first_past : n / 2 < i → n ≤ i * w
   first_past h = let k : i * 2 ≤ i * w = mul-le-mul_left i least in omega arith
 
-  pub second_past : n / 2 ≤ i → n ≤ i * w + 1
-  second_past h = let k : i * 2 ≤ i * w = mul-le-mul_left i least in omega arith
-
-  pub item-fits : i ≤ n / 2 → n * 1 < 2 ^ 63 → i * w + 1 < 2 ^ 64
+  pub item-fits : i ≤ n / 2 → n * 1 < 2 ^ 63 → i * w + 2 < 2 ^ 64
   item-fits h b = let k : i * w ≤ i * 4 = mul-le-mul_left i most in omega arith
-
-  pub third-past : n / 2 ≤ i → n ≤ i * w + 2
-  third-past h = let k = second_past h in omega arith
-
-  pub third-fits : i < n / 2 → n * 1 < 2 ^ 63 → i * w + 2 < 2 ^ 64
-  third-fits h b = let k : i * w ≤ i * 4 = mul-le-mul_left i most in omega arith
 
 -- so many items are few bytes
 pub items-few : {i w m : ℕ} → i < m → w ≤ 4 → i * w ≤ m * 4

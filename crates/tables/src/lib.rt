@@ -1,7 +1,8 @@
 // State tables: where each field of a file lies, and reading one. For every byte string, whether or not it is a good table.
 #![tactic(auto)]
 
-ghost use Rattle.std.specs.Prelude.{◌≡◌, ◌<◌};
+ghost use Rattle.std.specs.Prelude.{◌≡◌, ◌+◌, ◌*◌, ◌<◌};
+ghost use Rattle.lists.specs.Numbers.{byte_at};
 ghost use Rattle.tables.specs.Table.{one_start_layout, start_word_layout, layout_of, format_of};
 ghost use Rattle.tables.specs.Table.{keyed, version_of, last_version, format_in, states_of, start_of, starts_of, initial_of, steps_of};
 ghost use Rattle.tables.specs.Table.{steps_at, table_length, labels_part, steps_part, label_of, from_of, to_of, key_of};
@@ -93,30 +94,25 @@ impl Format {
     pub const LAST_KEYED_VERSION: usize = 1;
 
     // The format of a version, of tables with or without keys; a number that is no version counts as the last.
+    #[tactic(auto, unfolding(crate::specs::Table::format_of))]
     pub fn of(keyed: bool, version: usize) -> Self
         ensures { result ≡ format_of keyed version }
     {
-        if keyed {
-            return Format::Keyed;
+        match (keyed, version) {
+            (true, _) => Format::Keyed,
+            (false, 1) => Format::Version1,
+            (false, 2) => Format::Version2,
+            (false, 3) => Format::Version3,
+            (false, _) => Format::Version4,
         }
-        if version == 1 {
-            return Format::Version1;
-        }
-        if version == 2 {
-            return Format::Version2;
-        }
-        if version == 3 {
-            return Format::Version3;
-        }
-        Format::Version4
     }
 
     // The layout of the format.
+    #[tactic(auto, unfolding(crate::specs::Table::layout_of))]
     pub fn layout(self) -> Layout
         ensures { result ≡ layout_of self }
     {
-        let format = self;
-        match format {
+        match self {
             Format::Version1 => Layout::with_one_start(false),
             Format::Version2 => Layout::with_one_start(true),
             Format::Version3 => Layout::with_start_word(2, 2, false),
@@ -147,6 +143,7 @@ impl Head {
 }
 
 // Whether the steps have keys, by the third byte.
+#[tactic(auto, unfolding(crate::specs::Table::keyed))]
 pub fn is_keyed(s: &[u8]) -> bool
     ensures { result ≡ keyed s.now }
 {
@@ -154,6 +151,7 @@ pub fn is_keyed(s: &[u8]) -> bool
 }
 
 // The version that the header gives.
+#[tactic(auto, unfolding(crate::specs::Table::version_of))]
 pub fn version(s: &[u8]) -> usize
     ensures { result ≡ version_of s.now }
 {
@@ -161,16 +159,19 @@ pub fn version(s: &[u8]) -> usize
 }
 
 // The last version that is read of this kind of table; the first is 1.
+#[tactic(auto, unfolding(crate::specs::Table::last_version))]
 pub fn last_version(s: &[u8]) -> usize
     ensures { result ≡ last_version s.now }
 {
     if is_keyed(s) {
-        return Format::LAST_KEYED_VERSION;
+        Format::LAST_KEYED_VERSION
+    } else {
+        Format::LAST_VERSION
     }
-    Format::LAST_VERSION
 }
 
 // The format of a file, by its kind and its version.
+#[tactic(auto, unfolding(crate::specs::Table::format_in))]
 pub fn format_of(s: &[u8]) -> Format
     ensures { result ≡ format_in s.now }
 {
@@ -178,6 +179,7 @@ pub fn format_of(s: &[u8]) -> Format
 }
 
 // The number of states that the header gives.
+#[tactic(auto, unfolding(crate::specs::Table::states_of))]
 pub fn states(s: &[u8]) -> usize
     ensures value { result ≡ states_of s.now }
     ensures small { result < 256 }
@@ -186,6 +188,7 @@ pub fn states(s: &[u8]) -> usize
 }
 
 // The start that a header without a start word gives.
+#[tactic(auto, unfolding(crate::specs::Table::start_of))]
 pub fn start(s: &[u8]) -> usize
     ensures { result ≡ start_of s.now }
 {
@@ -193,6 +196,7 @@ pub fn start(s: &[u8]) -> usize
 }
 
 // The start word, as a set of states.
+#[tactic(auto, unfolding(crate::specs::Table::starts_of))]
 pub fn starts(s: &[u8]) -> Row
     ensures { result.0 ≡ starts_of s.now }
 {
@@ -200,18 +204,20 @@ pub fn starts(s: &[u8]) -> Row
 }
 
 // The set of initial states: the start word, or the one start.
+#[tactic(auto, unfolding(crate::specs::Table::initial_of, crate::specs::Table::start_word))]
 pub fn initial(s: &[u8]) -> Row
     ensures { result.0 ≡ initial_of s.now }
 {
     let layout = format_of(s).layout();
     if layout.word {
-        return starts(s);
+        starts(s)
+    } else {
+        Row::empty().add(start(s))
     }
-    let none = Row::empty();
-    none.add(start(s))
 }
 
 // The number of steps that the header gives.
+#[tactic(auto, unfolding(crate::specs::Table::steps_of))]
 pub fn step_count(s: &[u8]) -> usize
     ensures value { result ≡ steps_of s.now }
     ensures small { result < 65536 }
@@ -221,6 +227,7 @@ pub fn step_count(s: &[u8]) -> usize
 }
 
 // Where the steps begin, after the header and the labels.
+#[tactic(auto, unfolding(crate::specs::Table::steps_at))]
 fn steps_at(s: &[u8]) -> usize
     ensures value { result ≡ steps_at s.now }
     ensures small { result < 65536 }
@@ -230,6 +237,7 @@ fn steps_at(s: &[u8]) -> usize
 }
 
 // The length that a table with this header has: the header, the labels and the steps.
+#[tactic(auto, unfolding(crate::specs::Table::table_length))]
 pub fn table_length(s: &[u8]) -> usize
     ensures { result ≡ table_length s.now }
 {
@@ -238,6 +246,7 @@ pub fn table_length(s: &[u8]) -> usize
 }
 
 // The labels of a table, as the part of the file that holds them.
+#[tactic(auto, unfolding(crate::specs::Table::labels_part))]
 pub fn labels(s: &[u8]) -> &[u8]
     ensures { result.now ≡ labels_part s.now }
 {
@@ -248,6 +257,7 @@ pub fn labels(s: &[u8]) -> &[u8]
 }
 
 // The steps of a table, as the part of the file that holds them.
+#[tactic(auto, unfolding(crate::specs::Table::steps_part))]
 pub fn steps(s: &[u8]) -> &[u8]
     ensures { result.now ≡ steps_part s.now }
 {
@@ -267,41 +277,46 @@ pub fn label(labels: &[u8], format: Format, state: usize) -> u64
     read_be(labels, state * layout.label, layout.label)
 }
 
-// The state that step j leaves, from the part that holds the steps; 0 past the end. A step has two bytes or more.
-pub fn from(steps: &[u8], format: Format, j: usize) -> usize
-    ensures value { result ≡ from_of format steps.now j }
+// Byte k of step j, from the part that holds the steps; 0 past the end. A step has two bytes or more.
+fn byte_of_step(steps: &[u8], format: Format, j: usize, k: usize) -> usize
+    requires { k < 3 }
+    ensures value { result ≡ byte_at steps.now (j * (layout_of format).step + k) }
     ensures small { result < 256 }
 {
     let layout = format.layout();
     if steps.len() / 2 < j {
         return 0;
     }
-    byte(steps, j * layout.step)
+    byte(steps, j * layout.step + k)
+}
+
+// The state that step j leaves, from the part that holds the steps; 0 past the end.
+#[tactic(auto, unfolding(crate::specs::Table::from_of))]
+pub fn from(steps: &[u8], format: Format, j: usize) -> usize
+    ensures value { result ≡ from_of format steps.now j }
+    ensures small { result < 256 }
+{
+    byte_of_step(steps, format, j, 0)
 }
 
 // The state that step j enters, from the part that holds the steps; 0 past the end.
+#[tactic(auto, unfolding(crate::specs::Table::to_of))]
 pub fn to(steps: &[u8], format: Format, j: usize) -> usize
     ensures value { result ≡ to_of format steps.now j }
     ensures small { result < 256 }
 {
-    let layout = format.layout();
-    if steps.len() / 2 <= j {
-        return 0;
-    }
-    byte(steps, j * layout.step + 1)
+    byte_of_step(steps, format, j, 1)
 }
 
 // The key of step j, from the part that holds the steps; 0 past the end, and where steps have no keys.
+#[tactic(auto, unfolding(crate::specs::Table::key_of))]
 pub fn key(steps: &[u8], format: Format, j: usize) -> usize
     ensures value { result ≡ key_of format steps.now j }
     ensures small { result < 256 }
 {
-    let layout = format.layout();
-    if layout.keyed {
-        if steps.len() / 2 <= j {
-            return 0;
-        }
-        return byte(steps, j * layout.step + 2);
+    if format.layout().keyed {
+        byte_of_step(steps, format, j, 2)
+    } else {
+        0
     }
-    0
 }

@@ -55,12 +55,10 @@ pub fn put_six(
 ) -> usize
     ensures { Wrote (fitting (six_text a b c d e f) at output.old) at result output.old output.new }
 {
-    if output.len() < MOST {
+    if output.len() < MOST || output.len() - MOST < at {
         return at;
     }
-    if output.len() - MOST < at {
-        return at;
-    }
+    // Written out: a loop over five of the six would leave the last one, with its newline, to a call of its own.
     let to_b = put_number(a, SPACE, output, at);
     let to_c = put_number(b, SPACE, output, to_b);
     let to_d = put_number(c, SPACE, output, to_c);
@@ -73,14 +71,13 @@ pub fn put_six(
 pub fn put_answer(answer: Answer, output: &mut [u8], at: usize) -> usize
     ensures { Wrote (fitting (answer_text answer) at output.old) at result output.old output.new }
 {
-    put_six(
-        answer.code,
-        answer.file,
-        answer.a,
-        answer.b,
-        answer.c,
-        answer.d,
-        output,
-        at,
-    )
+    let Answer {
+        code,
+        file,
+        a,
+        b,
+        c,
+        d,
+    } = answer;
+    put_six(code, file, a, b, c, d, output, at)
 }

@@ -1,15 +1,50 @@
 // A set of states below 64, as the bits of a word.
 #![tactic(auto)]
 
-ghost use Rattle.std.specs.Prelude.{◌≡◌, eqb};
+ghost use Rattle.std.specs.Prelude.{◌≡◌, ◌≤◌, ◌<◌, eqb, Some, IfSome, MatchOption};
 ghost use Rattle.std.specs.Int.Bits.{bit_and, bit_or};
 ghost use Rattle.lists.specs.Numbers.{big_endian, big_bytes};
 ghost use Rattle.lists.specs.Lists.{put_at};
+ghost use Rattle.std.specs.Iterator.{at_most};
+ghost use Rattle.lists.specs.Below.{some_below};
+ghost use Rattle.words.specs.Walks.{next_state};
 ghost use Rattle.words.specs.Bits.{has_bit, has_from, add_bit, remove_bit, without_bits, count_bits, first_bit};
 
 // A set of states: state t is in it where the word has the bit of weight 2 to the power t.
 #[derive(Clone, Copy)]
 pub struct Row(pub u64);
+
+// A walk over the states of a set in rising order: `rest` has those that are still to be met.
+#[derive(Clone, Copy)]
+pub struct States {
+    pub rest: Row,
+}
+
+impl Iterator for States {
+    type Item = usize;
+
+    ghost next_gives = { λ before found after. next_state before.rest.0 found after.rest.0 };
+
+    ghost remaining = { λ walk. at_most (count_bits walk.rest.0) };
+
+    fn next(&mut self) -> Option<usize> {
+        let (t, rest) = self.rest.split_first()?;
+        self.rest = rest;
+        Some(t)
+    }
+}
+
+impl IntoIterator for Row {
+    type Item = usize;
+
+    type IntoIter = States;
+
+    ghost into_iter_gives = { λ set walk. walk.rest ≡ set };
+
+    fn into_iter(self) -> States {
+        States { rest: self }
+    }
+}
 
 impl Row {
     // No state.
@@ -96,6 +131,26 @@ impl Row {
         ensures { result ≡ first_bit self.0 }
     {
         u64::trailing_zeros(self.0) as usize
+    }
+
+    // The smallest state of the set, if there is one.
+    pub fn smallest(self) -> Option<usize>
+        ensures { result ≡ some_below 64 (first_bit self.0) }
+    {
+        let t = self.first();
+        if t < 64 { Some(t) } else { None }
+    }
+
+    // The smallest state of the set, and the set without it.
+    fn split_first(self) -> Option<(usize, Row)>
+        ensures split { MatchOption result (64 ≤ first_bit self.0) (λ p. next_state self.0 (Some p.0) p.1.0) }
+        ensures fewer { IfSome result (λ p. count_bits p.1.0 < count_bits self.0) }
+    {
+        let t = self.first();
+        if 64 <= t {
+            return None;
+        }
+        Some((t, self.remove(t)))
     }
 
     // The set in the 8 bytes of s from at on, the high byte first; past the end stand zeros.

@@ -13,391 +13,340 @@
 // Before the maker runs, each byte of the output is a5.
 #![tactic(auto)]
 
-ghost use Rattle.std.specs.Prelude.{◌≡◌, true, ◌<◌, ◌≤◌, length};
+ghost use Rattle.std.specs.Prelude.{◌≡◌, true, ◌<◌, ◌≤◌, length, IfSome};
 
 use answers::Answer;
-use certificate_reader::{CertificateRead, RelationRead};
 use certificates::Sizes;
-use lists::{byte, part_of};
-use table_reader::{Known, TableRead};
+use std::io::{self, Read, Stdin};
+use table_reader::Known;
 
 // ---- printing
 
-// A number and a space.
-fn print_number(number: usize) {
-    io::print_decimal(1, number as u64);
-    io::write_all(1, b" ");
+// The six numbers, on a line.
+fn print_answer(rt: &impl Print, answer: Answer) -> io::Result<()> {
+    let Answer {
+        code,
+        file,
+        a,
+        b,
+        c,
+        d,
+    } = answer;
+    println!(rt; "{code} {file} {a} {b} {c} {d}")
 }
 
-fn print_answer(answer: Answer) {
-    print_number(answer.code);
-    print_number(answer.file);
-    print_number(answer.a);
-    print_number(answer.b);
-    print_number(answer.c);
-    io::print_decimal(1, answer.d as u64);
-    io::write_all(1, b"\n");
+// The bytes as hexadecimal digits, on a line.
+fn print_bytes(rt: &impl Print, bytes: &[u8]) -> io::Result<()> {
+    for value in bytes {
+        print!(rt; "{value:02x}")?;
+    }
+    println!(rt)
 }
 
-fn print_good(a: usize, b: usize, c: usize, d: usize) {
-    print_answer(Answer {
+// ---- what the readers say
+
+// What is printed of a file that is read: 0 0 and four numbers.
+fn good(a: usize, b: usize, c: usize, d: usize) -> Answer {
+    Answer {
         code: 0,
         file: 0,
         a,
         b,
         c,
         d,
-    });
-}
-
-fn print_sizes(sizes: Sizes) {
-    print_good(
-        sizes.n1 as usize,
-        sizes.n2 as usize,
-        sizes.m1 as usize,
-        sizes.m2 as usize,
-    );
-}
-
-// A value below 16 as a hexadecimal digit.
-fn print_digit(value: u8) {
-    let at = value as usize;
-    io::write_all(1, part_of(b"0123456789abcdef", at, at + 1));
-}
-
-// The bytes as hexadecimal digits, on a line.
-fn print_bytes(bytes: &[u8]) {
-    let mut i: usize = 0;
-    while i < bytes.len() {
-        let value = bytes[i];
-        print_digit(value / 16);
-        print_digit(value % 16);
-        i += 1;
-    }
-    io::write_all(1, b"\n");
-}
-
-// ---- what the readers say
-
-fn show_table(s: &[u8], file: usize) {
-    let read = table_reader::read_table(s, Known::Both);
-    match read {
-        TableRead::Good(head) => {
-            let initial = head.initial;
-            print_good(head.states, head.steps, tables::version(s), initial.first());
-        }
-        TableRead::Refused(refusal) => print_answer(refusal.answer(file)),
     }
 }
 
-// Reads the left table, then the right, and shows the first that is refused, or the right one.
-fn show_tables(left: &[u8], right: &[u8]) {
-    let read = table_reader::read_table(left, Known::Both);
-    let TableRead::Good(_) = read else {
-        show_table(left, 0);
-        return;
-    };
-    show_table(right, 1);
+fn good_sizes(sizes: Sizes) -> Answer {
+    good(
+        usize::from(sizes.n1),
+        usize::from(sizes.n2),
+        usize::from(sizes.m1),
+        usize::from(sizes.m2),
+    )
 }
 
-fn show_certificate(certificate: &[u8], sizes: Sizes) {
-    let read = certificate_reader::read_certificate(certificate, sizes);
-    match read {
-        CertificateRead::Good(found) => print_sizes(found),
-        CertificateRead::Refused(refusal) => print_answer(refusal.answer(2)),
+fn table_numbers(s: &[u8], file: usize) -> Answer {
+    match table_reader::read_table(s, Known::Both) {
+        Ok(head) => good(
+            head.states,
+            head.steps,
+            tables::version(s),
+            head.initial.first(),
+        ),
+        Err(refusal) => refusal.answer(file),
     }
 }
 
-fn show_relation(relation: &[u8], sizes: Sizes) {
-    let read = certificate_reader::read_relation(relation, sizes);
-    match read {
-        RelationRead::Good(found) => print_sizes(found),
-        RelationRead::Refused(refusal) => print_answer(refusal.answer(2)),
+// Reads the left table, then the right, and tells of the first that is refused, or of the right one.
+fn pair_numbers(left: &[u8], right: &[u8]) -> Answer {
+    if table_reader::read_table(left, Known::Both).is_err() {
+        table_numbers(left, 0)
+    } else {
+        table_numbers(right, 1)
+    }
+}
+
+fn certificate_numbers(certificate: &[u8], sizes: Sizes) -> Answer {
+    match certificate_reader::read_certificate(certificate, sizes) {
+        Ok(found) => good_sizes(found),
+        Err(refusal) => refusal.answer(2),
+    }
+}
+
+fn relation_numbers(relation: &[u8], sizes: Sizes) -> Answer {
+    match certificate_reader::read_relation(relation, sizes) {
+        Ok(found) => good_sizes(found),
+        Err(refusal) => refusal.answer(2),
     }
 }
 
 // The offsets of the rows and of the four runs, and the length.
-fn show_layout(sizes: Sizes) {
+fn layout_numbers(sizes: Sizes) -> Answer {
     let runs = sizes.runs();
-    print_answer(Answer {
+    Answer {
         code: Sizes::HEADER,
         file: runs.al,
         a: runs.ar,
         b: runs.cl,
         c: runs.cr,
         d: sizes.length(),
-    });
+    }
 }
 
 // The labels of three states and of one past the end.
-fn show_labels(table: &[u8]) {
+fn label_numbers(table: &[u8]) -> Answer {
     let format = tables::format_of(table);
     let labels = tables::labels(table);
     let first = tables::label(labels, format, 0);
     let second = tables::label(labels, format, 1);
     let third = tables::label(labels, format, 2);
-    let last = tables::label(labels, format, 18446744073709551615);
-    print_good(
+    let last = tables::label(labels, format, usize::MAX);
+    good(
         first as usize,
         second as usize,
         third as usize,
         last as usize,
-    );
+    )
 }
 
 // The ends of two steps.
-fn show_steps(table: &[u8], j: usize, k: usize) {
+fn step_numbers(table: &[u8], j: usize, k: usize) -> Answer {
     let format = tables::format_of(table);
     let steps = tables::steps(table);
     let from = tables::from(steps, format, j);
     let to = tables::to(steps, format, j);
     let next_from = tables::from(steps, format, k);
     let next_to = tables::to(steps, format, k);
-    print_good(from, to, next_from, next_to);
+    good(from, to, next_from, next_to)
 }
 
-// ---- what the judge says
+// ---- what is said of the files of a case
 
-fn show_judged(left: &[u8], right: &[u8], certificate: &[u8]) {
-    print_answer(checker::judge(left, right, certificate));
+// The files of a case: two tables, and a certificate or a relation.
+#[derive(Clone, Copy)]
+struct Files<'a> {
+    left: &'a [u8],
+    right: &'a [u8],
+    file: &'a [u8],
 }
 
-// ---- what the maker says and writes
-
-// The sizes that the headers of two files give, whether or not they are good tables.
-fn sizes_of(left: &[u8], right: &[u8]) -> Sizes {
-    Sizes {
-        n1: tables::states(left) as u8,
-        n2: tables::states(right) as u8,
-        m1: tables::step_count(left) as u16,
-        m2: tables::step_count(right) as u16,
+impl Files<'_> {
+    // The sizes that the headers of the tables give, whether or not they are good tables.
+    fn sizes(self) -> Sizes {
+        Sizes {
+            n1: tables::states(self.left) as u8,
+            n2: tables::states(self.right) as u8,
+            m1: tables::step_count(self.left) as u16,
+            m2: tables::step_count(self.right) as u16,
+        }
     }
-}
 
-// The length of a certificate, and 1023 for a longer one: an output has 1024 bytes.
-fn room(left: &[u8], right: &[u8]) -> usize
-    ensures { (0 < result) × (result < 1024) }
-{
-    let sizes = sizes_of(left, right);
-    let length = sizes.length();
-    if length < 1024 {
-        return length;
+    // The length of a certificate, and 1023 for a longer one: an output has 1024 bytes.
+    #[tactic(auto, unfolding(certificates::specs::Layout::certificate_length))]
+    fn room(self) -> usize
+        ensures { (0 < result) × (result < 1024) }
+    {
+        let sizes = self.sizes();
+        sizes.length().min(1023)
     }
-    1023
-}
 
-// Makes in the first n bytes of the output.
-fn make_in(left: &[u8], right: &[u8], relation: &[u8], output: &mut [u8], n: usize) -> Answer
-    requires { n ≤ length output.old }
-{
-    let part = &mut output[0..n];
-    ranking::make(left, right, relation, part)
-}
-
-// Whether two answers have the same six numbers.
-fn same_answer(x: Answer, y: Answer) -> bool
-    ensures { x ≡ y → result ≡ true }
-{
-    if x.code != y.code {
-        return false;
+    // Makes in the first n bytes of the output.
+    fn make_in(self, output: &mut [u8], n: usize) -> Answer
+        requires { n ≤ length output.old }
+    {
+        let part = &mut output[..n];
+        ranking::make(self.left, self.right, self.file, part)
     }
-    if x.file != y.file {
-        return false;
+
+    // Whether the maker and the maker by sets, each with an output of its own that holds the same, give the same six numbers and leave the same bytes: they
+    // do, for every input and output.
+    fn makers_agree(self, output: &mut [u8], output2: &mut [u8]) -> bool
+        requires { output.old ≡ output2.old }
+        ensures { result ≡ true }
+    {
+        let made = ranking::make(self.left, self.right, self.file, output);
+        let made2 = ranking::make_by_sets(self.left, self.right, self.file, output2);
+        made == made2 && check::same(output, output2)
     }
-    if x.a != y.a {
-        return false;
+
+    // Both makers on outputs of 1024 bytes.
+    fn expect_agreement(self) {
+        let mut output = [0xa5u8; 1024];
+        let mut output2 = [0xa5u8; 1024];
+        check::expect(self.makers_agree(&mut output, &mut output2));
     }
-    if x.b != y.b {
-        return false;
+
+    // The answer, where the output is as long as the certificate.
+    fn made(self) -> Answer {
+        let n = self.room();
+        let mut output = [0xa5u8; 1024];
+        self.expect_agreement();
+        self.make_in(&mut output, n)
     }
-    if x.c != y.c {
-        return false;
+
+    // The answer, where the output is one byte shorter.
+    fn made_short(self) -> Answer {
+        let n = self.room() - 1;
+        let mut output = [0xa5u8; 1024];
+        self.make_in(&mut output, n)
     }
-    x.d == y.d
-}
 
-// Whether the maker and the maker by sets, each with an output of its own that holds the same, give the same six numbers and leave the same bytes: they do,
-// for every input and output.
-fn makers_agree(
-    left: &[u8],
-    right: &[u8],
-    relation: &[u8],
-    output: &mut [u8],
-    output2: &mut [u8],
-) -> bool
-    requires { output.old ≡ output2.old }
-    ensures { result ≡ true }
-{
-    let made = ranking::make(left, right, relation, output);
-    let made2 = ranking::make_by_sets(left, right, relation, output2);
-    if same_answer(made, made2) {
-        return check::same(output, output2);
+    // What the judge says of the certificate written, or the maker's refusal.
+    fn made_judged(self) -> Answer {
+        let n = self.room();
+        let mut output = [0xa5u8; 1024];
+        let made = self.make_in(&mut output, n);
+        if made.code != 0 {
+            return made;
+        }
+        checker::judge(self.left, self.right, &output[..n])
     }
-    false
-}
 
-// Both makers on outputs of 1024 bytes.
-fn expect_agreement(left: &[u8], right: &[u8], relation: &[u8]) {
-    let mut output = [0xa5u8; 1024];
-    let mut output2 = [0xa5u8; 1024];
-    check::expect(makers_agree(left, right, relation, &mut output, &mut output2));
-}
-
-// The answer, where the output is as long as the certificate.
-fn show_made(left: &[u8], right: &[u8], relation: &[u8]) {
-    let n = room(left, right);
-    let mut output = [0xa5u8; 1024];
-    expect_agreement(left, right, relation);
-    print_answer(make_in(left, right, relation, &mut output, n));
-}
-
-// The answer, where the output is one byte shorter.
-fn show_short(left: &[u8], right: &[u8], relation: &[u8]) {
-    let n = room(left, right) - 1;
-    let mut output = [0xa5u8; 1024];
-    print_answer(make_in(left, right, relation, &mut output, n));
-}
-
-// What the judge says of the certificate written, or the maker's refusal.
-fn show_made_judged(left: &[u8], right: &[u8], relation: &[u8]) {
-    let n = room(left, right);
-    let mut output = [0xa5u8; 1024];
-    let made = make_in(left, right, relation, &mut output, n);
-    if made.code != 0 {
-        print_answer(made);
-        return;
+    // The output of one byte more than the certificate, as the maker leaves it.
+    fn print_written(self, rt: &impl Print) -> io::Result<()> {
+        let n = self.room() + 1;
+        let mut output = [0xa5u8; 1024];
+        self.make_in(&mut output, n);
+        print_bytes(rt, &output[..n])
     }
-    show_judged(left, right, part_of(&output, 0, n));
-}
 
-// The output of one byte more than the certificate, as the maker leaves it.
-fn show_written(left: &[u8], right: &[u8], relation: &[u8]) {
-    let n = room(left, right) + 1;
-    let mut output = [0xa5u8; 1024];
-    make_in(left, right, relation, &mut output, n);
-    print_bytes(part_of(&output, 0, n));
-}
+    // The six numbers that the letter asks for.
+    fn numbers(self, letter: u8) -> Answer {
+        match letter {
+            b'T' => table_numbers(self.left, 0),
+            b'P' => pair_numbers(self.left, self.right),
+            b'C' => certificate_numbers(self.file, self.sizes()),
+            b'R' => relation_numbers(self.file, self.sizes()),
+            b'O' => layout_numbers(self.sizes()),
+            b'L' => label_numbers(self.left),
+            b'S' => step_numbers(self.left, 0, 1),
+            b'J' => checker::judge(self.left, self.right, self.file),
+            b'M' => self.made(),
+            b'N' => self.made_short(),
+            b'B' => self.made_judged(),
+            _ => step_numbers(self.left, 2, usize::MAX),
+        }
+    }
 
-// ---- the letters
-
-// Shows what the letter asks for.
-fn show(letter: u8, left: &[u8], right: &[u8], file: &[u8]) {
-    match letter {
-        b'T' => show_table(left, 0),
-        b'P' => show_tables(left, right),
-        b'C' => show_certificate(file, sizes_of(left, right)),
-        b'R' => show_relation(file, sizes_of(left, right)),
-        b'O' => show_layout(sizes_of(left, right)),
-        b'L' => show_labels(left),
-        b'S' => show_steps(left, 0, 1),
-        b'J' => show_judged(left, right, file),
-        b'M' => show_made(left, right, file),
-        b'N' => show_short(left, right, file),
-        b'B' => show_made_judged(left, right, file),
-        b'W' => show_written(left, right, file),
-        _ => show_steps(left, 2, 18446744073709551615),
+    // Prints what the letter asks for.
+    fn show(self, rt: &impl Print, letter: u8) -> io::Result<()> {
+        if letter == b'W' {
+            self.print_written(rt)
+        } else {
+            print_answer(rt, self.numbers(letter))
+        }
     }
 }
 
 // ---- cases
 
-// Where the byte first stands, and the length where it stands nowhere.
-fn find(s: &[u8], wanted: u8) -> usize
-    ensures { result ≤ length s.now }
+// Where the byte first stands.
+fn find(s: &[u8], wanted: u8) -> Option<usize>
+    ensures { IfSome result (λ i. i < length s.now) }
 {
-    let mut i: usize = 0;
-    while i < s.len() {
-        if byte(s, i) == wanted as usize {
-            return i;
-        }
-        i += 1;
-    }
-    i
+    s.iter().position(|byte| *byte == wanted)
 }
 
-// What stands before the first such byte, and all where there is none.
-fn before(s: &[u8], wanted: u8) -> &[u8] {
-    part_of(s, 0, find(s, wanted))
-}
-
-// What stands after the first such byte, and nothing where there is none.
-fn after(s: &[u8], wanted: u8) -> &[u8] {
-    let i = find(s, wanted);
-    if i < s.len() {
-        return part_of(s, i + 1, s.len());
+// What stands before the first such byte and what after it; all and nothing where there is none.
+fn cut(s: &[u8], wanted: u8) -> (&[u8], &[u8]) {
+    match find(s, wanted) {
+        Some(i) => (&s[..i], &s[i + 1..]),
+        None => (s, &[]),
     }
-    part_of(s, i, i)
 }
 
 // The value of a hexadecimal digit.
-fn digit(letter: usize) -> usize
+fn digit(letter: u8) -> u8
     ensures { result < 16 }
 {
-    if letter < 0x3a {
+    if letter <= b'9' {
         return letter % 16;
     }
     (letter % 16 + 9) % 16
 }
 
-// Puts a byte where the buffer has a place for it.
-fn put(buffer: &mut [u8], i: usize, value: u8) {
-    if i < buffer.len() {
-        buffer[i] = value;
+// Puts the bytes that the digits give, as far as there is room, and answers these.
+fn decode<'a>(digits: &[u8], buffer: &'a mut [u8; 1024]) -> &'a [u8] {
+    let n = (digits.len() / 2).min(buffer.len());
+    for i in 0..n {
+        buffer[i] = digit(digits[i * 2]) * 16 + digit(digits[i * 2 + 1]);
     }
+    &buffer[..n]
 }
 
-// Puts the bytes that the digits give, as far as there is room, and answers how many they are.
-fn decode(digits: &[u8], buffer: &mut [u8]) -> usize {
-    let n = digits.len() / 2;
-    let mut i: usize = 0;
-    while i < n {
-        let high = digit(byte(digits, i * 2));
-        let low = digit(byte(digits, i * 2 + 1));
-        put(buffer, i, (high * 16 + low) as u8);
-        i += 1;
-    }
-    n
+// Prints what the letter asks for of the files of a case.
+fn show_files(rt: &impl Print, letter: u8, files: &[u8]) -> io::Result<()> {
+    let (left, others) = cut(files, b' ');
+    let (right, file) = cut(others, b' ');
+    let (mut l, mut r, mut f) = ([0u8; 1024], [0u8; 1024], [0u8; 1024]);
+    let files = Files {
+        left: decode(left, &mut l),
+        right: decode(right, &mut r),
+        file: decode(file, &mut f),
+    };
+    files.show(rt, letter)
 }
 
-// Shows the files of a case.
-fn show_files(letter: u8, files: &[u8]) {
-    let mut left = [0u8; 1024];
-    let n = decode(before(files, b' '), &mut left);
-    let others = after(files, b' ');
-    let mut right = [0u8; 1024];
-    let m = decode(before(others, b' '), &mut right);
-    let mut file = [0u8; 1024];
-    let k = decode(after(others, b' '), &mut file);
-    show(
-        letter,
-        part_of(&left, 0, n),
-        part_of(&right, 0, m),
-        part_of(&file, 0, k),
-    );
-}
-
-// Prints the words and shows the files of a case.
-fn show_case(line: &[u8]) {
-    io::write_all(1, before(line, b':'));
-    io::write_all(1, b": ");
-    let words = after(after(line, b':'), b' ');
-    show_files(byte(words, 0) as u8, after(words, b' '));
+// Prints the words of a case and what it shows.
+fn show_case(rt: &impl Print, line: &[u8]) -> io::Result<()> {
+    let (words, rest) = cut(line, b':');
+    let (_, rest) = cut(rest, b' ');
+    let (letter, files) = cut(rest, b' ');
+    rt.write_all(words)?;
+    print!(rt; ": ")?;
+    show_files(rt, letter.first().copied().unwrap_or(0), files)
 }
 
 // Shows the cases, of which each ends in a line feed.
-fn show_cases(text: &[u8]) {
-    let mut at: usize = 0;
-    while at < text.len() {
-        let rest = &text[at..];
-        let length = find(rest, b'\n');
-        show_case(part_of(rest, 0, length));
-        at += length;
-        at += 1;
+fn show_cases(rt: &impl Print, text: &[u8]) -> io::Result<()> {
+    for line in text.split_inclusive(|byte| *byte == b'\n') {
+        let (case, _) = cut(line, b'\n');
+        show_case(rt, case)?;
     }
+    Ok(())
 }
 
-fn main() {
+// Reads until the text is full or the input ends, and answers what came.
+fn read_text(mut stdin: Stdin, text: &mut [u8]) -> io::Result<&[u8]> {
+    let mut n: usize = 0;
+    while n < text.len() {
+        let got = stdin.read(&mut text[n..])?;
+        if got == 0 {
+            break;
+        }
+        n += got;
+    }
+    Ok(&text[..n])
+}
+
+// Shows the cases of standard input.
+fn show_input(rt: &HostRuntime) -> io::Result<()> {
     let mut text = [0u8; 65536];
-    let n = io::read_full(0, &mut text);
-    show_cases(part_of(&text, 0, n));
+    show_cases(rt, read_text(rt.stdin(), &mut text)?)
+}
+
+fn main(rt: HostRuntime) {
+    // A read or a write that fails ends the cases, and is not told.
+    let _ = show_input(&rt);
 }

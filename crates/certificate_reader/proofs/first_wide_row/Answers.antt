@@ -1,38 +1,19 @@
--- `certificate_reader::first_wide_row` meets its contract: the loop has found no row with a bit n2 or more below s. Assumes nothing.
-use Prim.Native.Nat.{ℕ}
-use mathlib.Core.Path.{◌≡◌, sym, ap, ◌∙◌}
-use mathlib.Core.Bool.{Bool}
-use mathlib.Core.List.{List}
+-- `certificate_reader::first_wide_row` meets its contract: the search passes the rows that have no bit n2 or more. Assumes nothing.
+use mathlib.Core.Path.{refl}
+use native.Mathlib.Nat.{not-suc-le-zero}
 use native.Mathlib.Omega.{arith}
-use Rattle.lists.proofs.BelowLaws.{first-start, first-miss, first-hit}
-use Rattle.words.specs.Bits.{has_from}
-use Rattle.certificates.specs.Layout.{row_of}
+use lib.Dec.{T}
+use borrow.Author.Tests.{tests}
+use Rattle.std.proofs.Common.{rules}
+use Rattle.std.proofs.lemmas.Iterator.{first_from_Range}
+use Rattle.lists.proofs.FoundLaws.{found-from}
 use Rattle.certificate_reader.specs.CertificateReading.{wide_row}
 use Rattle.certificate_reader.proofs.first_wide_row.Goals as goal
 
--- what `has_from` tells of the row that was read is whether the row is wide
-wide_is : (rows : List ℕ) (n2 s : ℕ) {x : ℕ} {b : Bool} → x ≡ row_of rows s → b ≡ has_from x n2 → wide_row rows n2 s ≡ b
-unfolding wide_row
-wide_is rows n2 s e h = sym (h ∙ ap (λ (y : ℕ). has_from y n2) e)
-
-pub loop-s-init : goal.loop-s-init
-loop-s-init c = (omega arith, first-start _)
-
-pub returns-then-has_from : goal.returns-then-has_from
-returns-then-has_from c =
-    let a = c.args in
-    let l = c.loop-s in
-    let w = wide_is a.rows.now a.n2 l.s c.row-word.ensures c.has_from.ensures in
-    sym (first-hit _ l.s a.n1 l.invariant.1 (omega arith) (w ∙ c.if-has_from.true))
-
-pub loop-s-preserved : goal.loop-s-preserved
-loop-s-preserved c =
-    let a = c.args in
-    let l = c.loop-s in
-    let w = wide_is a.rows.now a.n2 l.s c.row-word.ensures c.has_from.ensures in
-    (omega arith, first-miss _ l.s l.invariant.1 (w ∙ c.if-has_from.false))
-
 pub returns : goal.returns
+unfolding wide_row
 returns c =
-    let e : c.loop-s.s ≡ c.args.n1 = omega arith in
-    cc
+    let a = c.args in
+    let p = wide_row a.rows.now a.n2 in
+    found-from a.n1 p 0 (λ k l. absurd (not-suc-le-zero l)) p (λ k l. refl) _
+    (first_from_Range _ _ _ _ (λ s. T (p s)) (λ s. T (p s) → ⊥) c.find.ensures.ran (λ s r k. grind (arith, tests)) (λ s r k. (search rules, grind (arith, tests))))

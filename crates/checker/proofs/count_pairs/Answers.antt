@@ -13,27 +13,24 @@ one-row : (w : ℕ) {x : ℕ} → x ≡ count_bits w → x ≤ 64
 unfolding count_bits
 one-row w e = rw e (count-bound 64 (has_bit w))
 
-pub loop-s-init : goal.loop-s-init
+pub loop-word-init : goal.loop-word-init
 unfolding sum_below
-loop-s-init c = (refl, omega arith, omega arith)
+loop-word-init c = (refl, omega arith)
 
 pub overflow_add-pairs : goal.overflow_add-pairs
 overflow_add-pairs c =
-    let l = c.loop-s in
     let k = one-row _ c.count-pairs.ensures in
-    let i = l.invariant.2 in
-    let j = l.invariant.1 in
+    let i = c.loop-word.invariant.1 in
     omega arith
 
-pub loop-s-preserved : goal.loop-s-preserved
-loop-s-preserved c =
-    let a = c.args in
-    let l = c.loop-s in
+pub loop-word-preserved : goal.loop-word-preserved
+loop-word-preserved c =
+    let l = c.loop-word in
     let k = one-row _ c.count-pairs.ensures in
-    let i = l.invariant.2 in
-    (ap₂ ◌+◌ l.invariant.0 c.count-pairs.ensures ∙ sym (sum_more l.s (λ s. count_bits (get_or a.words.now s 0))), omega arith, omega arith)
+    let i = l.invariant.1 in
+    (ap₂ ◌+◌ l.invariant.0 c.count-pairs.ensures ∙ sym (sum_more l.word-index (λ s. count_bits (get_or c.args.words.now s 0))), omega arith)
 
 pub returns : goal.returns
 returns c =
-    let h : c.loop-s.s ≡ 64 = omega arith in
-    rw h at c.loop-s.invariant.0
+    let h : c.loop-word.word-index ≡ 64 = omega arith in
+    rw h at c.loop-word.invariant.0

@@ -1,9 +1,9 @@
 -- `examination::check_chains` meets its contract: no chain is found at a fixed state before b. Assumes nothing.
 use Prim.Native.Nat.{ℕ}
-use mathlib.Core.Path.{◌≡◌}
-use native.Mathlib.Nat.{not-suc-le-zero}
+use mathlib.Core.Path.{◌≡◌, sym}
 use native.Mathlib.Omega.{arith}
 use borrow.Author.Count.{below_more}
+use Rattle.answers.specs.Numbers.{which_number}
 use Rattle.answers.specs.Verdicts.{passed}
 use Rattle.sides.specs.Side.{system_in}
 use Rattle.sides.specs.Views.{view_in}
@@ -11,32 +11,27 @@ use Rattle.examination.specs.OnSides.{long_by}
 use Rattle.examination.proofs.ChainLaws.{chains_at, none_found, chain-found, chain-none}
 use Rattle.examination.proofs.check_chains.Goals as goal
 
-pub loop-b-init : goal.loop-b-init
-loop-b-init c = (λ i h. absurd (not-suc-le-zero h), omega arith, c.states-m.ensures.value, c.states-m.ensures.small, c.states-n.ensures.value)
-
-pub returns-then-c-n : goal.returns-then-c-n
-returns-then-c-n c =
+pub returns-in-Some : goal.returns-in-Some
+returns-in-Some c =
     let a = c.args in
-    let l = c.loop-b in
-    let long = long_by (view_in a.ours.now a.theirs.now) a.chains.now in
-    chain-found a.side (system_in a.ours.now).states (system_in a.theirs.now).states long l.b c.first_long-c.ensures l.invariant.0
-    (rw l.invariant.2 at c.loop-b-test.true) (rw l.invariant.4 at c.if-c-n.true)
+    let v = a.view in
+    let m = c.states-b-end.ensures.value in
+    chain-found (which_number a.side) (system_in v.ours.now).states (system_in v.theirs.now).states (long_by (view_in v.ours.now v.theirs.now) a.chains.now)
+    c.loop-b.b c.loop-b.invariant (omega arith) c.from.ensures (sym c.in-Some.ensures)
 
 pub loop-b-preserved : goal.loop-b-preserved
 loop-b-preserved c =
     let a = c.args in
-    let theirs = a.theirs.now in
-    let ours = a.ours.now in
-    let l = c.loop-b in
-    let chains = chains_at a.side (system_in ours).states (system_in theirs).states (long_by (view_in ours theirs) a.chains.now) in
-    let none = none_found a.side (system_in ours).states (system_in theirs).states (long_by (view_in ours theirs) a.chains.now) l.b
-    c.first_long-c.ensures (rw l.invariant.4 at c.if-c-n.false) in
-    (below_more (λ (i : ℕ). chains i ≡ passed) l.b l.invariant.0 none, omega arith, l.invariant.2, l.invariant.3, l.invariant.4)
+    let v = a.view in
+    let long = long_by (view_in v.ours.now v.theirs.now) a.chains.now in
+    let none = none_found (which_number a.side) (system_in v.ours.now).states (system_in v.theirs.now).states long c.loop-b.b (sym c.in_default.ensures) in
+    below_more (λ (i : ℕ). chains_at (which_number a.side) (system_in v.ours.now).states (system_in v.theirs.now).states long i ≡ passed) c.loop-b.b
+    c.loop-b.invariant none
 
 pub returns : goal.returns
 returns c =
     let a = c.args in
-    let l = c.loop-b in
-    chain-none a.side (system_in a.ours.now).states (system_in a.theirs.now).states
-    (long_by (view_in a.ours.now a.theirs.now) a.chains.now) l.invariant.0
-    (rw l.invariant.2 at c.loop-b-test.false)
+    let v = a.view in
+    let m = c.states-b-end.ensures.value in
+    chain-none (which_number a.side) (system_in v.ours.now).states (system_in v.theirs.now).states
+    (long_by (view_in v.ours.now v.theirs.now) a.chains.now) c.loop-b.invariant (omega arith)

@@ -1,37 +1,42 @@
 -- `examination::examine` meets its contract: the starts, then the pairs, then our chains and theirs. Assumes nothing.
-use mathlib.Core.Path.{sym, ◌∙◌}
+use mathlib.Core.Path.{◌∙◌}
+use Rattle.answers.proofs.ExitLaws.{handed-on}
 use Rattle.examination.proofs.PairLaws.{starts-refuse, pairs-refuse, left-chains-refuse, right-chains-decide}
 use Rattle.examination.proofs.examine.Goals as goal
 
-pub returns-in_default : goal.returns-in_default
-returns-in_default c =
-    let a = c.args in
-    let g = c.in_default.is in
-    g ∙ starts-refuse a.ours.now a.theirs.now a.distances.now a.distances2.now a.chains.now a.chains2.now
-    (sym c.check_starts-starts.ensures ∙ g)
+pub returns-in_err-check_starts : goal.returns-in_err-check_starts
+returns-in_err-check_starts c =
+    let v = c.args.view in
+    let l = c.args.lengths in
+    let l2 = c.args.lengths2 in
+    handed-on c.from_residual.ensures.1
+    ∙ starts-refuse v.ours.now v.theirs.now l.distances.now l2.distances.now l.chains.now l2.chains.now c.in_err-check_starts.ensures
 
-pub returns-in_default-pairs : goal.returns-in_default-pairs
-returns-in_default-pairs c =
-    let a = c.args in
-    let starts = sym c.check_starts-starts.ensures ∙ c.in-Passed.is in
-    let g = c.in_default-pairs.is in
-    g ∙ pairs-refuse a.ours.now a.theirs.now a.distances.now a.distances2.now a.chains.now a.chains2.now starts
-    (sym c.check_pairs-pairs.ensures ∙ g)
+pub returns-in_err-check_pairs : goal.returns-in_err-check_pairs
+returns-in_err-check_pairs c =
+    let v = c.args.view in
+    let l = c.args.lengths in
+    let l2 = c.args.lengths2 in
+    handed-on c.from_residual-in_err-check_pairs.ensures.1
+    ∙ pairs-refuse v.ours.now v.theirs.now l.distances.now l2.distances.now l.chains.now l2.chains.now c.in_ok-check_starts.ensures
+    c.in_err-check_pairs.ensures
 
-pub returns-in_default-left : goal.returns-in_default-left
-returns-in_default-left c =
-    let a = c.args in
-    let starts = sym c.check_starts-starts.ensures ∙ c.in-Passed.is in
-    let pairs = sym c.check_pairs-pairs.ensures ∙ c.in-Passed-pairs.is in
-    let g = c.in_default-left.is in
-    g ∙ left-chains-refuse a.ours.now a.theirs.now a.distances.now a.distances2.now a.chains.now a.chains2.now starts pairs
-    (sym c.check_chains-left.ensures ∙ g)
+pub returns-in_err-check_chains : goal.returns-in_err-check_chains
+returns-in_err-check_chains c =
+    let v = c.args.view in
+    let l = c.args.lengths in
+    let l2 = c.args.lengths2 in
+    let turned = c.turned.ensures in
+    handed-on c.from_residual-in_err-check_chains.ensures.1
+    ∙ left-chains-refuse v.ours.now v.theirs.now l.distances.now l2.distances.now l.chains.now l2.chains.now c.in_ok-check_starts.ensures
+    c.in_ok-check_pairs.ensures (rw (turned.ours, turned.theirs) at c.in_err-check_chains.ensures)
 
 pub returns : goal.returns
 returns c =
-    let a = c.args in
-    let starts = sym c.check_starts-starts.ensures ∙ c.in-Passed.is in
-    let pairs = sym c.check_pairs-pairs.ensures ∙ c.in-Passed-pairs.is in
-    let chains = sym c.check_chains-left.ensures ∙ c.in-Passed-left.is in
-    c.check_chains.ensures ∙ right-chains-decide a.ours.now a.theirs.now a.distances.now a.distances2.now a.chains.now
-    a.chains2.now starts pairs chains
+    let v = c.args.view in
+    let l = c.args.lengths in
+    let l2 = c.args.lengths2 in
+    let turned = c.turned.ensures in
+    c.check_chains-2.ensures
+    ∙ right-chains-decide v.ours.now v.theirs.now l.distances.now l2.distances.now l.chains.now l2.chains.now c.in_ok-check_starts.ensures
+    c.in_ok-check_pairs.ensures (rw (turned.ours, turned.theirs) at c.in_ok-check_chains.ensures)

@@ -9,12 +9,12 @@ use Rattle.examination.proofs.is_long.Goals as goal
 pub returns-then-has : goal.returns-then-has
 returns-then-has c =
     let a = c.args in
-    long-related (view_in a.ours.now a.theirs.now) a.chains.now a.b a.c
-    (c.has.ensures ∙ ap (λ (w : ℕ). has_bit w a.c) c.related-states_of.ensures.value) c.if-has.true c.byte.ensures.value
+    long-related (view_in a.view.ours.now a.view.theirs.now) a.chains.now a.b a.c
+    (c.has.ensures ∙ ap (λ (w : ℕ). has_bit w a.c) c.related.ensures.value) c.if-has.true c.byte.ensures.value
     c.states.ensures.value
 
-pub returns : goal.returns
-returns c =
+pub returns-else-has : goal.returns-else-has
+returns-else-has c =
     let a = c.args in
-    long-unrelated (view_in a.ours.now a.theirs.now) a.chains.now a.b a.c
-    (c.has.ensures ∙ ap (λ (w : ℕ). has_bit w a.c) c.related-states_of.ensures.value) c.if-has.false
+    c.if-has.false ∙ long-unrelated (view_in a.view.ours.now a.view.theirs.now) a.chains.now a.b a.c
+    (c.has.ensures ∙ ap (λ (w : ℕ). has_bit w a.c) c.related.ensures.value) c.if-has.false

@@ -9,4 +9,4 @@ pub returns : goal.returns
 returns c =
     let a = c.args in
     let d = c.all_distances-distances.ensures in
-    record { distances = d; chains = c.all_chains-chains.ensures ∙ table-chains (view_in a.ours.now a.theirs.now) (steps-few a.ours.now) d }
+    record { distances = d; chains = c.all_chains-chains.ensures ∙ table-chains (view_in a.view.ours.now a.view.theirs.now) (steps-few a.view.ours.now) d }

@@ -1,7 +1,9 @@
 -- `lengths::open_steps` meets its contract: after j steps the open ones among them are kept, in their order. Assumes nothing.
-use Prim.Native.Nat.{◌<◌}
-use mathlib.Core.Path.{◌≡◌}
+use Prim.Native.Nat.{◌<◌, zero-le}
 use native.Mathlib.Omega.{arith}
+use mathlib.Core.Path.{ap}
+use lib.ListN.{length, length-set}
+use Rattle.std.proofs.lemmas.List.{take_more_set}
 use Rattle.sides.specs.Side.{system_in}
 use Rattle.sides.specs.Views.{view_in}
 use Rattle.lengths.specs.Chains.{open_by}
@@ -10,48 +12,35 @@ use Rattle.lengths.proofs.open_steps.Goals as goal
 use Rattle.lengths.proofs.open_steps.Goals.{then-is_open, else-is_open}
 
 pub loop-j-init : goal.loop-j-init
-loop-j-init c = (open-start _ _, omega arith, c.step_count-m.ensures.value, c.step_count-m.ensures.small)
+loop-j-init c = record { few = zero-le; are = open-start _ _ }
 
-pub overflow_cast-leaves : goal.overflow_cast-leaves
-overflow_cast-leaves c =
-    let l = c.loop-j in
+pub overflow_cast-kept : goal.overflow_cast-kept
+overflow_cast-kept c =
     let a = c.args in
-    let q = open-below a.ours.now a.theirs.now a.distances.now a.t l.j c.is_open.ensures c.if-is_open.true in
-    let e = c.from.ensures in
-    omega (arith, q.0, e)
+    omega (arith, open-below a.view.ours.now a.view.theirs.now a.distances.now a.t c.loop-j.j c.is_open.ensures c.if-is_open.true, c.from.ensures)
 
-pub overflow_cast-enters : goal.overflow_cast-enters
-overflow_cast-enters c =
-    let l = c.loop-j in
-    let is_open = c.is_open in
+pub overflow_cast-kept-then-is_open : goal.overflow_cast-kept-then-is_open
+overflow_cast-kept-then-is_open c =
     let a = c.args in
-    let q = open-below a.ours.now a.theirs.now a.distances.now a.t l.j is_open.ensures c.if-is_open.true in
-    let e = c.to.ensures in
-    omega (arith, q.1, e)
+    omega (arith, open-below a.view.ours.now a.view.theirs.now a.distances.now a.t c.loop-j.j c.is_open.ensures c.if-is_open.true, c.to.ensures)
 
 pub loop-j-preserved : goal.loop-j-preserved
 loop-j-preserved c =
-    let is_open = c.is_open in
+    let o = c.is_open.ensures in
     let a = c.args in
     let l = c.loop-j in
     let i = l.invariant in
-    let below : l.j < 256 = omega (arith, i.2, i.3, c.loop-j-test.true) in
-    let S = system_in a.ours.now in
-    let test = open_by (view_in a.ours.now a.theirs.now) a.distances.now a.t in (
-      elim c.if-is_open.branch [
-        | then-is_open w ↦
-            rw (w.leaves-is, w.enters-is, w.count-is)
-            (open-keep S test i.0 is_open.ensures below w.if-is_open.true w.from.ensures w.to.ensures
-            (rw w.to.ensures (open-below a.ours.now a.theirs.now a.distances.now a.t l.j is_open.ensures w.if-is_open.true).1))
-        | else-is_open w ↦ rw (w.leaves-is, w.enters-is, w.count-is) (open-skip S test i.0 is_open.ensures w.if-is_open.false)
-      ],
-      omega arith,
-      i.2,
-      i.3,
-    )
-
-pub returns : goal.returns
-returns c =
-    let l = c.loop-j in
-    let e : l.j ≡ (system_in c.args.ours.now).steps = omega (arith, l.invariant.2) in
-    rw e at l.invariant.0
+    let S = system_in a.view.ours.now in
+    let test = open_by (view_in a.view.ours.now a.view.theirs.now) a.distances.now a.t in
+    elim c.if-is_open.branch [
+      | then-is_open w ↦
+          let room : l.count < length l.kept = omega (arith, c.if-is_open.array_long, simp length-set at (ap length w.kept-is)) in
+          rw (w.kept-is, w.count-is)
+          (record {
+            few = omega arith;
+            are = rw (take_more_set l.kept l.count _ room)
+                (open-keep S test i.are o w.if-is_open.true w.from.ensures w.to.ensures
+                (rw w.to.ensures (open-below a.view.ours.now a.view.theirs.now a.distances.now a.t l.j o w.if-is_open.true).1));
+          })
+      | else-is_open w ↦ rw (w.kept-is, w.count-is) (record { few = omega arith; are = open-skip S test i.are o w.if-is_open.false })
+    ]

@@ -17,8 +17,8 @@ pub list_row-end-requires : goal.list_row-end-requires
 list_row-end-requires c =
     let a = c.args in
     let l = c.loop-s in
-    let text = row_text a.ours.now a.theirs.now a.certificate.now a.left a.right in
-    let n = (system_in a.ours.now).states in
+    let text = row_text a.view.ours.now a.view.theirs.now a.ranks.certificate.now a.ranks.left a.ranks.right in
+    let n = (system_in a.view.ours.now).states in
     putting-room _ a.at a.output.now l.invariant (text l.s) (join_from (l.s + 1) n text) (states-next n text l.s (omega arith)) 126
     c.requires
 
@@ -26,8 +26,8 @@ pub loop-s-preserved : goal.loop-s-preserved
 loop-s-preserved c =
     let a = c.args in
     let l = c.loop-s in
-    let text = row_text a.ours.now a.theirs.now a.certificate.now a.left a.right in
-    putting-next _ a.at a.output.now l.invariant _ _ (states-next (system_in a.ours.now).states text l.s (omega arith)) 126
+    let text = row_text a.view.ours.now a.view.theirs.now a.ranks.certificate.now a.ranks.left a.ranks.right in
+    putting-next _ a.at a.output.now l.invariant _ _ (states-next (system_in a.view.ours.now).states text l.s (omega arith)) 126
     c.requires c.list_row-end.ensures
 
 pub returns : goal.returns
@@ -35,4 +35,4 @@ returns c =
     let a = c.args in
     let l = c.loop-s in
     putting-end _ _ _ l.invariant
-    (states-end (system_in a.ours.now).states (row_text a.ours.now a.theirs.now a.certificate.now a.left a.right) l.s (omega arith))
+    (states-end (system_in a.view.ours.now).states (row_text a.view.ours.now a.view.theirs.now a.ranks.certificate.now a.ranks.left a.ranks.right) l.s (omega arith))

@@ -17,8 +17,8 @@ pub list_pair-end-requires : goal.list_pair-end-requires
 list_pair-end-requires c =
     let a = c.args in
     let l = c.loop-t in
-    let text = pair_text a.ours.now a.theirs.now a.certificate.now a.left a.right a.s in
-    let n = (system_in a.theirs.now).states in
+    let text = pair_text a.view.ours.now a.view.theirs.now a.ranks.certificate.now a.ranks.left a.ranks.right a.s in
+    let n = (system_in a.view.theirs.now).states in
     putting-room _ a.at a.output.now l.invariant (text l.t) (join_from (l.t + 1) n text) (states-next n text l.t (omega arith)) 126
     c.requires
 
@@ -27,7 +27,7 @@ loop-t-preserved c =
     let a = c.args in
     let l = c.loop-t in
     putting-next _ a.at a.output.now l.invariant _ _
-    (states-next (system_in a.theirs.now).states (pair_text a.ours.now a.theirs.now a.certificate.now a.left a.right a.s)
+    (states-next (system_in a.view.theirs.now).states (pair_text a.view.ours.now a.view.theirs.now a.ranks.certificate.now a.ranks.left a.ranks.right a.s)
     l.t (omega arith)) 126 c.requires c.list_pair-end.ensures
 
 pub returns : goal.returns
@@ -35,5 +35,5 @@ returns c =
     let a = c.args in
     let l = c.loop-t in
     putting-end _ _ _ l.invariant
-    (states-end (system_in a.theirs.now).states (pair_text a.ours.now a.theirs.now a.certificate.now a.left a.right a.s)
+    (states-end (system_in a.view.theirs.now).states (pair_text a.view.ours.now a.view.theirs.now a.ranks.certificate.now a.ranks.left a.ranks.right a.s)
     l.t (omega arith))

@@ -1,6 +1,6 @@
 -- `lists::put_be` meets its contract: with the bytes left to write over those from `at` on, the output is the contract's at every turn. Assumes nothing.
 use Prim.Native.Nat.{ℕ, zero, suc, ◌+◌, ◌≤◌, ◌<◌, ◌-◌, ◌/◌, ◌%◌}
-use mathlib.Core.Path.{◌≡◌, refl, sym, ap, ap₂, ◌∙◌}
+use mathlib.Core.Path.{◌≡◌, sym, ap, ap₂, ◌∙◌}
 use mathlib.Core.List.{List, [], ◌∷◌, ◌++◌, append_assoc, append-nil}
 use native.Mathlib.Nat.{not-suc-le-zero, le_refl, add-zero}
 use native.Mathlib.Numerals.{unary_clauses}
@@ -11,11 +11,9 @@ use Rattle.lists.specs.Lists.{put_at}
 use Rattle.lists.specs.Numbers.{big_bytes}
 use Rattle.lists.proofs.FillLaws.{put-at-fits, put-at-short}
 use Rattle.lists.proofs.NumberLaws.{length-bytes}
+use Rattle.lists.proofs.put_be.Invariants.{over}
 use Rattle.lists.proofs.put_be.Goals as goal
-
--- The output l with the i bytes of x over those from `at` on.
-abbrev over : (at i x : ℕ) → List ℕ → List ℕ
-over at i x l = take at l ++ big_bytes i x ++ drop (at + i) l
+use Rattle.lists.proofs.put_be.Goals.{then-output-at-via-then-output-at, then-output-at-via-else-output-at+then-output-at-2}
 
 -- the last byte that is left, stored
 one_less : (at i x : ℕ) (l : List ℕ) → 0 < i → at + i ≤ length l → over at (i - 1) (x / 256) (set l (at + (i - 1)) (x % 256)) ≡ over at i x l
@@ -43,32 +41,21 @@ all-over at k x d h =
     ap (λ (n : ℕ). take at d ++ big_bytes k x ++ drop (at + n) d) (sym (length-bytes k x)) ∙ sym (put-at-fits at (big_bytes k x) d (rw length-bytes h))
 
 pub returns-then-output-at : goal.returns-then-output-at
-returns-then-output-at c = sym (put-at-short _ _ _ (rw length-bytes (omega arith)))
-
-pub returns-then-output-at-2 : goal.returns-then-output-at-2
-returns-then-output-at-2 c = sym (put-at-short _ _ _ (rw length-bytes (omega arith)))
-
-pub loop-i-init : goal.loop-i-init
-loop-i-init c = (omega arith, omega arith, refl, refl)
-
-pub overflow_add-output : goal.overflow_add-output
-overflow_add-output c = omega arith
-
-pub bounds-output-at : goal.bounds-output-at
-bounds-output-at c = omega arith
+returns-then-output-at c =
+    let short : length c.args.output.now < c.args.at + c.args.k =
+    elim c.then-output-at.branch [
+      | then-output-at-via-then-output-at w ↦ omega arith
+      | then-output-at-via-else-output-at+then-output-at-2 w ↦ omega arith
+    ] in
+    sym (put-at-short _ _ _ (rw length-bytes short))
 
 pub loop-i-preserved : goal.loop-i-preserved
 loop-i-preserved c =
-    let at = c.args.at in
-    let l = c.loop-i in (
-      omega arith,
-      l.invariant.1,
-      length-set l.output (at + (l.i - 1)) (l.x % 256) ∙ l.invariant.2,
-      one_less at l.i l.x l.output (omega arith) (omega arith) ∙ l.invariant.3,
-    )
+    let l = c.loop-i in
+    one_less c.args.at l.i l.x l.output (omega arith) (omega arith) ∙ l.invariant
 
 pub returns : goal.returns
 returns c =
     let a = c.args in
     let l = c.loop-i in
-    sym (none_left a.at l.i l.x l.output (omega arith)) ∙ l.invariant.3 ∙ all-over a.at a.k a.number a.output.now l.invariant.1
+    sym (none_left a.at l.i l.x l.output (omega arith)) ∙ l.invariant ∙ all-over a.at a.k a.number a.output.now (omega arith)

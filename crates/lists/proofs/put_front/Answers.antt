@@ -1,18 +1,11 @@
--- `lists::put_front` meets its contract: the front is written byte after byte. Assumes nothing.
-use Prim.Native.Nat.{zero-le}
-use mathlib.Core.Path.{refl, sym}
+-- `lists::put_front` meets its contract: the front and what stands after it make the output. Assumes nothing.
+use mathlib.Core.Path.{sym}
 use native.Mathlib.Omega.{arith}
-use Rattle.lists.proofs.FillLaws.{filled_none, filled_more, filled_put, put-front-short}
+use Rattle.lists.proofs.FillLaws.{put-front-fits, put-front-short}
 use Rattle.lists.proofs.put_front.Goals as goal
 
-pub returns-then-output-front : goal.returns-then-output-front
-returns-then-output-front c = sym (put-front-short _ _ c.if-output-front.true)
+pub returns-then-front-output : goal.returns-then-front-output
+returns-then-front-output c = let whole = put-front-fits c.args.front.now c.args.output.now (omega arith) in cc
 
-pub loop-i-init : goal.loop-i-init
-loop-i-init c = (filled_none _ _, zero-le)
-
-pub loop-i-preserved : goal.loop-i-preserved
-loop-i-preserved c = (filled_more c.loop-i.invariant.0 (omega arith) refl, omega arith)
-
-pub returns : goal.returns
-returns c = filled_put _ c.loop-i.invariant.0 (omega arith)
+pub returns-else-front-output : goal.returns-else-front-output
+returns-else-front-output c = sym (put-front-short _ _ (omega arith))

@@ -1,28 +1,28 @@
 -- `match_sets::distances` meets its contract: the rows of the steps are lent one after the other, each as a part, and written; the others stay zeros.
 -- Assumes nothing.
+use Prim.Native.Nat.{ℕ, ◌≤◌, ◌<◌}
 use native.Mathlib.Omega.{arith}
-use Rattle.match_sets.proofs.DistanceRowLaws.{distance-rows-none, distance-rows-at, distance-rows-room, distance-rows-more, distance-rows-all}
+use lib.ListN.{replicate, length-replicate}
+use Rattle.lists.proofs.FillLaws.{rows_none}
+use Rattle.sides.specs.Side.{system_in}
+use Rattle.sides.specs.Views.{view_in}
+use Rattle.lengths.proofs.CellLaws.{distances-at, distances-rest, rows-copied}
 use Rattle.match_sets.proofs.distances.Goals as goal
 
 pub loop-j-init : goal.loop-j-init
-loop-j-init c = let e = c.step_count-count.ensures in distance-rows-none _ e.value e.small
-
-pub overflow_add-e : goal.overflow_add-e
-overflow_add-e c = omega (arith, distance-rows-at c.loop-j.invariant c.loop-j-test.true)
-
-pub step_distances-row-requires : goal.step_distances-row-requires
-step_distances-row-requires c = c.silent_predecessors-predecessors.ensures
-
-pub slice_bounds-at-end : goal.slice_bounds-at-end
-slice_bounds-at-end c = distance-rows-room c.loop-j.invariant c.loop-j-test.true
-
-pub loop-j-smaller : goal.loop-j-smaller
-loop-j-smaller c = omega arith
+loop-j-init c = rows_none 64 _ (replicate 16384 0)
 
 pub loop-j-preserved : goal.loop-j-preserved
 loop-j-preserved c =
-    distance-rows-more c.loop-j.invariant c.loop-j-test.true c.step_distances-row.ensures
-    c.put_front.ensures
+    let a = c.args in
+    let j = c.loop-j.j in
+    let count = c.step_count-j-end.ensures in
+    let h : j < 256 = omega (arith, count.small, c.loop-j-test.true) in
+    let k : j < (system_in a.view.ours.now).steps = omega (arith, count.value, c.loop-j-test.true) in
+    rows-copied 256 c.loop-j.invariant (length-replicate {A = ℕ} 16384 0) h
+    (distances-at (view_in a.view.ours.now a.view.theirs.now) j k c.step_distances-row.ensures) c.copy_from_slice.ensures.after
 
 pub returns : goal.returns
-returns c = distance-rows-all c.loop-j.invariant c.loop-j-test.false
+returns c =
+    let past : (system_in c.args.view.ours.now).steps ≤ c.loop-j.j = omega (arith, c.step_count-j-end.ensures.value, c.loop-j-test.false) in
+    distances-rest _ c.loop-j.invariant past

@@ -3,8 +3,5 @@ use native.Mathlib.Omega.{arith}
 use Rattle.match_sets.proofs.PredecessorLaws.{enter-silent}
 use Rattle.match_sets.proofs.entering.Goals as goal
 
-pub predecessors_of-requires : goal.predecessors_of-requires
-predecessors_of-requires c = c.requires.words<
-
 pub returns-then-by-eq0 : goal.returns-then-by-eq0
 returns-then-by-eq0 c = enter-silent _ _ _ c.if-by-eq0.true (omega arith) c.requires c.predecessors_of.ensures

@@ -7,7 +7,7 @@ use Rattle.match_sets.proofs.first_set.Goals as goal
 pub returns : goal.returns
 returns c =
     let a = c.args in
-    let ours = a.ours.now in
-    first-set ours a.theirs.now a.j (c.related-candidates.ensures.value ∙ ap (related_to ours) c.from.ensures)
+    let ours = a.view.ours.now in
+    first-set ours a.view.theirs.now a.j (c.related-candidates.ensures.value ∙ ap (related_to ours) c.from.ensures)
     c.related-candidates.ensures.small (c.related-target.ensures.value ∙ ap (related_to ours) c.to.ensures) c.key.ensures
     c.entering-near.ensures c.intersect.ensures

@@ -1,25 +1,21 @@
 -- `match_sets::mark` meets its contract: a walk over the states of the set, with a store at each. Assumes nothing.
+use mathlib.Core.Path.{ap}
 use native.Mathlib.Omega.{arith}
-use Rattle.words.proofs.WalkLaws.{walk_start, start-gap, walk_here, walk-rises, walk-gap, walk-next}
+use Rattle.words.specs.declared.Row.{Row}
+use Rattle.words.proofs.WalkLaws.{walk_all, before-all, met}
 use Rattle.match_sets.proofs.MarkLaws.{marked-none, marked_more, marked_all}
 use Rattle.match_sets.proofs.mark.Goals as goal
 
 pub loop-t-init : goal.loop-t-init
 loop-t-init c =
-    let e = c.first-t.ensures in
-    (walk_start (omega arith) e, marked-none _ _ _ (start-gap (omega arith) e), c.requires)
-
-pub loop-t-smaller : goal.loop-t-smaller
-loop-t-smaller c =
-    omega (arith, walk-rises c.loop-t.invariant.0 c.loop-t-test.true c.remove-rest.ensures c.first-t-in-loop-t.ensures)
+    let e = ap (λ (r : Row). r.0) c.into_iter-t-iterator.ensures.into_iter_gives in
+    (walk_all (omega arith) e, marked-none _ _ _ (before-all (omega arith) e))
 
 pub loop-t-preserved : goal.loop-t-preserved
 loop-t-preserved c =
     let i = c.loop-t.invariant in
-    let h = c.loop-t-test.true in
-    let r = c.remove-rest.ensures in
-    let e = c.first-t-in-loop-t.ensures in
-    (walk-next i.0 h r e, marked_more _ _ _ i.1 i.2 h (walk-rises i.0 h r e) (walk_here i.0 h) (walk-gap i.0 h r e), i.2)
+    let m = met i.0 c.in-Some.ensures.steps in
+    (m.walk, marked_more _ _ _ (rw (← m.first) at i.1) c.told-row m.small m.rises m.here m.gap)
 
 pub returns : goal.returns
-returns c = marked_all _ _ _ c.loop-t.invariant.1 c.loop-t-test.false
+returns c = marked_all _ _ _ c.loop-t.invariant.1 c.in-None.ensures.steps

@@ -4,14 +4,14 @@ use mathlib.Core.Bool.{false}
 use lib.Bits.{bit_and}
 use Rattle.obligations.proofs.OnSidesLaws.{stutters, by-stutter, stutters-not, stutters-level, by-match}
 use Rattle.obligations.proofs.outcome_by_ranks.Goals as goal
-use Rattle.obligations.proofs.outcome_by_ranks.Goals.{then-staying+else-after-before, else-staying}
+use Rattle.obligations.proofs.outcome_by_ranks.Goals.{else-staying-via-then-staying+else-stutter_at, else-staying-via-else-staying}
 
-pub returns-then-after-before : goal.returns-then-after-before
-returns-then-after-before c =
+pub returns-then-stutter_at : goal.returns-then-stutter_at
+returns-then-stutter_at c =
     let a = c.args in
-    by-stutter a.ours.now a.theirs.now a.certificate.now a.run a.j a.t c.from-s.ensures c.to-u.ensures
+    by-stutter a.view.ours.now a.view.theirs.now a.ranks.certificate.now a.ranks.run a.j a.t c.from-s.ensures c.to-u.ensures
     c.stays-staying.ensures c.if-staying.true
-    c.stutter_at-before.ensures c.stutter_at-after.ensures c.if-after-before.true
+    c.stutter_at-then-staying.ensures c.stutter_at.ensures c.if-stutter_at.true
 
 pub returns : goal.returns
 returns c =
@@ -19,14 +19,14 @@ returns c =
     let es = c.from-s.ensures in
     let eu = c.to-u.ensures in
     let ey = c.stays-staying.ensures in
-    let not-met : stutters a.ours.now a.theirs.now a.certificate.now a.run a.j a.t es eu ey ≡ false =
-    elim c.if-staying.branch [
-      | then-staying+else-after-before w ↦ stutters-level a.ours.now a.theirs.now a.certificate.now a.run a.j a.t es eu ey
-          w.stutter_at-before.ensures w.stutter_at-after.ensures w.if-after-before.false
-      | else-staying w ↦ stutters-not a.ours.now a.theirs.now a.certificate.now a.run a.j a.t es eu ey w.if-staying.false
+    let not-met : stutters a.view.ours.now a.view.theirs.now a.ranks.certificate.now a.ranks.run a.j a.t es eu ey ≡ false =
+    elim c.else-staying.branch [
+      | else-staying-via-then-staying+else-stutter_at w ↦ stutters-level a.view.ours.now a.view.theirs.now a.ranks.certificate.now a.ranks.run a.j a.t es eu ey
+          w.stutter_at-then-staying.ensures w.stutter_at.ensures w.if-stutter_at.false
+      | else-staying-via-else-staying w ↦ stutters-not a.view.ours.now a.view.theirs.now a.ranks.certificate.now a.ranks.run a.j a.t es eu ey w.if-staying.false
     ] in
     c.without_stutter.ensures
-    ∙ by-match a.ours.now a.theirs.now a.certificate.now a.run a.j a.t es eu ey not-met
+    ∙ by-match a.view.ours.now a.view.theirs.now a.ranks.certificate.now a.ranks.run a.j a.t es eu ey not-met
     (c.intersect-ahead.ensures ∙ ap₂ bit_and c.silent-quiet.ensures.value
     c.related.ensures.value)
     c.match_row.ensures

@@ -1,45 +1,29 @@
 -- `outcomes::without_stutter` meets its contract: each return is the first of the definition's tests that passes, the ones before it having failed.
 -- Assumes nothing.
-use Prim.Native.Nat.{ℕ}
-use mathlib.Core.Path.{◌≡◌, sym, ap, ◌∙◌}
-use mathlib.Core.Bool.{false}
-use lib.Dec.{ltb}
+use mathlib.Core.Path.{sym}
+use native.Mathlib.Omega.{arith}
 use borrow.Author.Tests.{lt-ltb, le-ltb}
-use Rattle.outcomes.specs.declared.Clause.TheVariants.{Match}
-use Rattle.outcomes.specs.declared.Outcome.TheVariants.{Met}
-use Rattle.outcomes.specs.Obligation.{first_falling, without_stutter}
+use Rattle.outcomes.specs.Obligation.{without_stutter}
+use Rattle.lists.proofs.SomeLaws.{some-e, none-e}
+use Rattle.outcomes.proofs.ObligationLaws.{some-state}
 use Rattle.outcomes.proofs.without_stutter.Goals as goal
-use Rattle.outcomes.proofs.without_stutter.Goals.{Else-state-lt-MAX_STATES}
+use Rattle.outcomes.proofs.without_stutter.Goals.{then-stays-via-then-stays, then-stays-via-else-stays+then-not-is_empty}
 
--- no rank falls
-match-fails : (c : Else-state-lt-MAX_STATES) → let a = c.args in ltb (first_falling a.ahead.0 a.ranks.now a.t) 64 ≡ false
-match-fails c = ap (λ (x : ℕ). ltb x 64) (sym c.falling_state-state.ensures) ∙ le-ltb _ 64 c.if-state-lt-MAX_STATES.false
-
-pub returns-then-state-lt-MAX_STATES : goal.returns-then-state-lt-MAX_STATES
+pub returns-in-Some : goal.returns-in-Some
 unfolding without_stutter
-returns-then-state-lt-MAX_STATES c =
-    let f = c.falling_state-state.ensures in
-    ap (Met Match) f ∙ sym (rw (ap (λ (x : ℕ). ltb x 64) (sym f) ∙ lt-ltb _ 64 c.if-state-lt-MAX_STATES.true))
+returns-in-Some c = let s = some-e (sym c.in-Some.ensures) in sym (rw (lt-ltb _ 64 s.0, s.1))
 
 pub returns-then-stays : goal.returns-then-stays
 unfolding without_stutter
 returns-then-stays c =
-    sym (rw (match-fails (goal.at.returns-then-stays c).Else-state-lt-MAX_STATES, c.if-stays.true))
-
-pub returns-then-first-lt-MAX_STATES : goal.returns-then-first-lt-MAX_STATES
-unfolding without_stutter
-returns-then-first-lt-MAX_STATES c =
-    sym (rw (
-      match-fails (goal.at.returns-then-first-lt-MAX_STATES c).Else-state-lt-MAX_STATES,
-      c.if-stays.false,
-      ap (λ (x : ℕ). ltb x 64) (sym c.first.ensures) ∙ lt-ltb _ 64 c.if-first-lt-MAX_STATES.true,
-    ))
+    let n = le-ltb _ 64 (none-e (sym c.in_default.ensures)) in
+    elim c.then-stays.branch [
+      | then-stays-via-then-stays w ↦ sym (rw (n, w.if-stays.true))
+      | then-stays-via-else-stays+then-not-is_empty w ↦ sym (rw (n, w.if-stays.false, some-state c.args.ahead.0 (omega arith), sym (w.is_empty.ensures), w.if-not-is_empty.true))
+    ]
 
 pub returns : goal.returns
 unfolding without_stutter
 returns c =
-    sym (rw (
-      match-fails (goal.at.returns c).Else-state-lt-MAX_STATES,
-      c.if-stays.false,
-      ap (λ (x : ℕ). ltb x 64) (sym c.first.ensures) ∙ le-ltb _ 64 c.if-first-lt-MAX_STATES.false,
-    ))
+    let n = le-ltb _ 64 (none-e (sym c.in_default.ensures)) in
+    sym (rw (n, c.if-stays.false, some-state c.args.ahead.0 (omega arith), sym c.is_empty.ensures, c.if-not-is_empty.false))

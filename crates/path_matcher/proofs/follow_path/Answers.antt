@@ -9,33 +9,33 @@ use Rattle.path_matcher.proofs.follow_path.Goals.{In-Enter, In-Stay, In-Push, In
 -- ---- what a move leads to, from where the loop stood
 
 abbrev entered : (c : In-Enter) → let a = c.args in
-    Entering a.ours.now a.theirs.now a.certificate.now a.run a.path.now a.start c.requires.all_met c.requires.starts_at c.loop-x.invariant.0
+    Entering a.view.ours.now a.view.theirs.now a.ranks.certificate.now a.ranks.run a.path.now a.start c.requires.all_met c.requires.starts_at c.loop-x.invariant.0
     c.in-Enter.x
 entered c =
     let a = c.args in
-    going-after a.ours.now a.theirs.now a.certificate.now a.run a.path.now a.start c.requires.all_met c.requires.starts_at c.loop-x.invariant.0
+    going-after a.view.ours.now a.view.theirs.now a.ranks.certificate.now a.ranks.run a.path.now a.start c.requires.all_met c.requires.starts_at c.loop-x.invariant.0
     (Enter c.in-Enter.x) c.next_move-next.ensures c.in-Enter.is
 
 abbrev stayed : (c : In-Stay) → let a = c.args in
-    Staying a.ours.now a.theirs.now a.certificate.now a.run a.path.now a.start c.requires.all_met c.requires.starts_at c.loop-x.invariant.0
+    Staying a.view.ours.now a.view.theirs.now a.ranks.certificate.now a.ranks.run a.path.now a.start c.requires.all_met c.requires.starts_at c.loop-x.invariant.0
 stayed c =
     let a = c.args in
-    going-after a.ours.now a.theirs.now a.certificate.now a.run a.path.now a.start c.requires.all_met c.requires.starts_at c.loop-x.invariant.0
+    going-after a.view.ours.now a.view.theirs.now a.ranks.certificate.now a.ranks.run a.path.now a.start c.requires.all_met c.requires.starts_at c.loop-x.invariant.0
     Stay c.next_move-next.ensures c.in-Stay.is
 
 abbrev pushed : (c : In-Push) → let a = c.args in
-    Pushing a.ours.now a.theirs.now a.certificate.now a.run a.path.now a.start c.requires.all_met c.requires.starts_at c.loop-x.invariant.0
+    Pushing a.view.ours.now a.view.theirs.now a.ranks.certificate.now a.ranks.run a.path.now a.start c.requires.all_met c.requires.starts_at c.loop-x.invariant.0
     c.in-Push.x
 pushed c =
     let a = c.args in
-    going-after a.ours.now a.theirs.now a.certificate.now a.run a.path.now a.start c.requires.all_met c.requires.starts_at c.loop-x.invariant.0
+    going-after a.view.ours.now a.view.theirs.now a.ranks.certificate.now a.ranks.run a.path.now a.start c.requires.all_met c.requires.starts_at c.loop-x.invariant.0
     (Push c.in-Push.x) c.next_move-next.ensures c.in-Push.is
 
 abbrev ended : (c : In-End) → let a = c.args in
-    Ending a.ours.now a.theirs.now a.certificate.now a.run a.path.now a.start c.requires.all_met c.requires.starts_at c.loop-x.invariant.0
+    Ending a.view.ours.now a.view.theirs.now a.ranks.certificate.now a.ranks.run a.path.now a.start c.requires.all_met c.requires.starts_at c.loop-x.invariant.0
 ended c =
     let a = c.args in
-    going-after a.ours.now a.theirs.now a.certificate.now a.run a.path.now a.start c.requires.all_met c.requires.starts_at c.loop-x.invariant.0
+    going-after a.view.ours.now a.view.theirs.now a.ranks.certificate.now a.ranks.run a.path.now a.start c.requires.all_met c.requires.starts_at c.loop-x.invariant.0
     End c.next_move-next.ensures c.in-End.is
 
 -- ---- the needs
@@ -45,7 +45,7 @@ loop-x-init c =
     let a = c.args in (
       going_start _ _ _ _ _ _ c.requires.all_met c.requires.starts_at a.found.now a.numbers.now (omega arith) (omega arith) c.put_entry.ensures
           c.put_number.ensures,
-      c.step_after-j.ensures,
+      c.step_after-step.ensures,
     )
 
 pub put_number-requires-in-Enter : goal.put_number-requires-in-Enter
@@ -54,24 +54,24 @@ put_number-requires-in-Enter c = (entered (goal.at.put_number-requires-in-Enter 
 pub put_entry-requires-in-Enter : goal.put_entry-requires-in-Enter
 put_entry-requires-in-Enter c = let x = entered (goal.at.put_entry-requires-in-Enter c).In-Enter in (x.small, x.entry-room)
 
-pub step_after-j-requires-in-Enter : goal.step_after-j-requires-in-Enter
-step_after-j-requires-in-Enter c = (entered (goal.at.step_after-j-requires-in-Enter c).In-Enter).more
+pub step_after-step-requires-in-Enter : goal.step_after-step-requires-in-Enter
+step_after-step-requires-in-Enter c = (entered (goal.at.step_after-step-requires-in-Enter c).In-Enter).more
 
 pub loop-x-preserved-in-Enter : goal.loop-x-preserved-in-Enter
 loop-x-preserved-in-Enter c = (
   (entered (goal.at.loop-x-preserved-in-Enter c).In-Enter).next c.put_number-in-Enter.ensures c.put_entry-in-Enter.ensures,
-  c.step_after-j-in-Enter.ensures,
+  c.step_after-step-in-Enter.ensures,
 )
 
 pub put_number-requires-in-Stay : goal.put_number-requires-in-Stay
 put_number-requires-in-Stay c = (stayed (goal.at.put_number-requires-in-Stay c).In-Stay).number-room
 
-pub step_after-j-requires-in-Stay : goal.step_after-j-requires-in-Stay
-step_after-j-requires-in-Stay c = (stayed (goal.at.step_after-j-requires-in-Stay c).In-Stay).more
+pub step_after-step-requires-in-Stay : goal.step_after-step-requires-in-Stay
+step_after-step-requires-in-Stay c = (stayed (goal.at.step_after-step-requires-in-Stay c).In-Stay).more
 
 pub loop-x-preserved-in-Stay : goal.loop-x-preserved-in-Stay
 loop-x-preserved-in-Stay c =
-    ((stayed (goal.at.loop-x-preserved-in-Stay c).In-Stay).next c.put_number-in-Stay.ensures, c.step_after-j-in-Stay.ensures)
+    ((stayed (goal.at.loop-x-preserved-in-Stay c).In-Stay).next c.put_number-in-Stay.ensures, c.step_after-step-in-Stay.ensures)
 
 pub put_entry-requires-in-Push : goal.put_entry-requires-in-Push
 put_entry-requires-in-Push c = let x = pushed (goal.at.put_entry-requires-in-Push c).In-Push in (x.small, x.entry-room)

@@ -18,18 +18,18 @@ use Rattle.path_matcher.proofs.follow_sides.Goals.{After-follow_path-count}
 
 -- ---- what is known when the path is followed
 
-right-path : (c : After-follow_path-count) → wrong_path 0 (system_in c.args.ours.now) c.args.path.now ≡ false
+right-path : (c : After-follow_path-count) → wrong_path 0 (system_in c.args.view.ours.now) c.args.path.now ≡ false
 right-path c = sym c.is_no_path.ensures ∙ c.if-is_no_path.false
 
-right-start : (c : After-follow_path-count) → wrong_start (view_in c.args.ours.now c.args.theirs.now) c.args.path.now c.args.start ≡ false
+right-start : (c : After-follow_path-count) → wrong_start (view_in c.args.view.ours.now c.args.view.theirs.now) c.args.path.now c.args.start ≡ false
 right-start c =
     start_right c.requires c.args.path.now c.args.start c.byte.ensures.value c.related-starts.ensures.value c.has.ensures c.if-not-has.false
 
 abbrev matched : After-follow_path-count → List Entry
-matched c = let a = c.args in matched_in a.ours.now a.theirs.now a.certificate.now a.run a.path.now a.start
+matched c = let a = c.args in matched_in a.view.ours.now a.view.theirs.now a.ranks.certificate.now a.ranks.run a.path.now a.start
 
 abbrev given : After-follow_path-count → List Entry
-given c = let a = c.args in given_in a.ours.now a.theirs.now a.certificate.now a.run a.path.now a.start
+given c = let a = c.args in given_in a.view.ours.now a.view.theirs.now a.ranks.certificate.now a.ranks.run a.path.now a.start
 
 -- how many states match
 counted : (c : After-follow_path-count) → c.follow_path-count.result ≡ length (matched c)

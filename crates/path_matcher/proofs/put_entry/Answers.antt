@@ -1,21 +1,22 @@
--- `path_matcher::put_entry` meets its contract: one store for each byte. Assumes nothing.
-use Prim.Native.Nat.{◌*◌}
-use native.Mathlib.Numerals.{add-one, add-two}
+-- `path_matcher::put_entry` meets its contract: the state is stored, and there is room for the two bytes after it. Assumes nothing.
+use Prim.Native.Nat.{ℕ, ◌+◌, ◌*◌}
+use mathlib.Core.Path.{ap, ap₂, ◌∙◌}
+use mathlib.Core.List.{List, [], ◌∷◌, ◌++◌, append_assoc}
 use native.Mathlib.Omega.{arith}
-use lib.ListN.{length-set}
-use lib.Seq.{sets-eq}
+use lib.ListN.{drop, set, length-set}
+use Rattle.std.proofs.lemmas.List.{take_more_set, drop-set-lt}
 use Rattle.lists.specs.Numbers.{big_bytes}
-use Rattle.path_matcher.specs.Following.{entry_bytes}
+use Rattle.lists.proofs.FillLaws.{put-at-fits}
 use Rattle.path_matcher.proofs.put_entry.Goals as goal
-
-pub bounds-output-at-2 : goal.bounds-output-at-2
-bounds-output-at-2 c = simp length-set (omega arith)
-
-pub bounds-output-at-3 : goal.bounds-output-at-3
-bounds-output-at-3 c = simp length-set (omega arith)
 
 pub returns : goal.returns
 unfolding big_bytes
 returns c =
     let a = c.args in
-    rw (add-one, add-two) (sets-eq (entry_bytes (record { state = a.state; block = a.block })) a.output.now (3 * a.i) (omega arith))
+    let at = 3 * a.i in
+    let l = a.output.now in
+    let bytes = big_bytes 2 a.block in
+    c.put_be.ensures
+    ∙ put-at-fits (at + 1) bytes (set l at a.state) (simp length-set (omega arith))
+    ∙ ap₂ ◌++◌ (ap (λ (p : List ℕ). p ++ bytes) (take_more_set l at a.state (omega arith)) ∙ append_assoc _ (a.state ∷ []) bytes)
+    (drop-set-lt _ l at a.state (omega arith) ∙ ap (λ (k : ℕ). drop k l) (omega arith))

@@ -1,8 +1,8 @@
 -- `path_matcher::step_after` meets its contract: the walk along the links stops at the first step that enters the next state. Assumes nothing.
-use mathlib.Core.Path.{◌≡◌, sym, ap₂, ◌∙◌}
-use native.Mathlib.Omega.{arith}
-use Rattle.sides.specs.Side.{system_in}
-use Rattle.sides.proofs.WalkLaws.{next-later, next-none}
+use mathlib.Core.Path.{sym, ap, ap₂, ◌∙◌}
+use Rattle.lists.proofs.SomeLaws.{some-i}
+use Rattle.sides.specs.Side.{steps_left}
+use Rattle.sides.proofs.WalkLaws.{left-below}
 use Rattle.path_matcher.specs.OnSides.{step_between}
 use Rattle.path_matcher.proofs.PathLaws.{between_start, between-here, between_next, between-end}
 use Rattle.path_matcher.proofs.step_after.Goals as goal
@@ -12,27 +12,17 @@ loop-j-init c =
     let side = c.args.side.now in
     let s = c.byte-s in
     let u = c.byte-u in
-    ap₂ (step_between side) (sym s.ensures.value) (sym u.ensures.value) ∙ between_start side u.result s.result c.first-j.ensures
+    ap₂ (step_between side) (sym s.ensures.value) (sym u.ensures.value)
+    ∙ between_start side u.result s.result (ap steps_left c.into_iter-j-iterator.ensures.into_iter_gives ∙ c.steps_from-j-items.ensures)
 
 pub returns-then-to-u : goal.returns-then-to-u
 returns-then-to-u c =
-    let l = c.loop-j in
-    sym (l.invariant ∙ between-here _ _ l.j (omega arith) (sym c.to.ensures ∙ c.if-to-u.true))
-
-pub returns-then-later-j : goal.returns-then-later-j
-returns-then-later-j c =
-    let side = c.args.side.now in
-    let l = c.loop-j in
-    let n : ¬ ((system_in side).to l.j ≡ c.byte-u.result) = λ e. c.if-to-u.false (c.to.ensures ∙ e) in
-    sym (l.invariant ∙ between_next side _ l.j (omega arith) n (next-none side l.j c.next-later.ensures c.if-later-j.true)
-    ∙ between-end side _ 256 (omega arith))
+    let here = c.in-Some.ensures.steps in
+    let e = c.loop-j.invariant ∙ between-here _ _ here (sym c.to.ensures ∙ c.if-to-u.true) in
+    rw e (sym (some-i (left-below c.loop-j.j-iterator here)))
 
 pub loop-j-preserved : goal.loop-j-preserved
-loop-j-preserved c =
-    let side = c.args.side.now in
-    let l = c.loop-j in
-    let n : ¬ ((system_in side).to l.j ≡ c.byte-u.result) = λ e. c.if-to-u.false (c.to.ensures ∙ e) in
-    l.invariant ∙ between_next side _ l.j (omega arith) n (next-later side l.j c.next-later.ensures c.if-later-j.false)
+loop-j-preserved c = c.loop-j.invariant ∙ between_next _ _ c.in-Some.ensures.steps (λ e. c.if-to-u.false (c.to.ensures ∙ e))
 
 pub returns : goal.returns
-returns c = sym (c.loop-j.invariant ∙ between-end _ _ c.loop-j.j (omega arith))
+returns c = let e = c.loop-j.invariant ∙ between-end _ _ c.in-None.ensures.steps.0 in rw e

@@ -5,14 +5,14 @@ use Rattle.pieces.specs.Pieces.{length_at}
 use Rattle.pieces.proofs.PieceLaws.{length-at-more}
 use Rattle.pieces.proofs.length_at.Goals as goal
 
-pub loop-k-init : goal.loop-k-init
+pub loop-init : goal.loop-init
 unfolding length_at
-loop-k-init c = (omega arith, refl, omega arith)
+loop-init c = (refl, omega arith)
 
-pub loop-k-preserved : goal.loop-k-preserved
-loop-k-preserved c =
+pub loop-preserved : goal.loop-preserved
+loop-preserved c =
     let s = c.args.input.now in
-    let l = c.loop-k in
-    let n : big_endian s (length_at s l.k) 2 ≡ c.read_be16.result = ap (λ (a : ℕ). big_endian s a 2) (sym l.invariant.1) ∙ sym c.read_be16.ensures.value in
-    let e = length-at-more s l.k in
-    (omega arith, omega arith, omega arith)
+    let l = c.loop in
+    let n : big_endian s (length_at s l.counter) 2 ≡ c.read_be16.result = ap (λ (a : ℕ). big_endian s a 2) (sym l.invariant.0) ∙ sym c.read_be16.ensures.value in
+    let e = length-at-more s l.counter in
+    (omega arith, omega arith)

@@ -5,23 +5,23 @@ use Rattle.ranking.proofs.MakeSidesLaws.{length-is, filled_is}
 use Rattle.ranking.proofs.make_read.Goals as goal
 
 pub returns-then-output-length : goal.returns-then-output-length
-returns-then-output-length c =
+returns-then-output-length g c =
     let a = c.args in
     let long = length-is a.left.now a.right.now a.relation.now c.requires c.of-sizes.ensures c.length-length.ensures in
     let both = too_short a.left.now a.right.now a.relation.now c.requires a.output.now long c.if-output-length.true in
-    record { value = both.0; written = both.1 }
+    record { value = c.of.ensures ∙ both.0; written = both.1 }
 
-pub returns-in-Refused : goal.returns-in-Refused
-returns-in-Refused c =
+pub returns-in-Err : goal.returns-in-Err
+returns-in-Err g c =
     let a = c.args in
     let long = length-is a.left.now a.right.now a.relation.now c.requires c.of-sizes.ensures
     c.length-length.ensures in
     let both = make-refused a.left.now a.right.now a.relation.now c.requires c.examine_read-examined.ensures.checked
-    a.output.now long c.if-output-length.false c.in-Refused.is in
+    a.output.now long c.if-output-length.false c.in-Err.is in
     record { value = both.0; written = both.1 }
 
-pub returns-in-Passed : goal.returns-in-Passed
-returns-in-Passed c =
+pub returns-in-Ok : goal.returns-in-Ok
+returns-in-Ok g c =
     let a = c.args in
     let examined = c.examine_read-examined.ensures in
     let long = length-is a.left.now a.right.now a.relation.now c.requires c.of-sizes.ensures
@@ -29,5 +29,5 @@ returns-in-Passed c =
     let filled = filled_is a.left.now a.right.now a.relation.now c.requires c.of-sizes.ensures
     a.output.now _ examined.ranks in
     let both = make-passed a.left.now a.right.now a.relation.now c.requires examined.checked a.output.now long c.if-output-length.false
-    c.in-Passed.is c.success.ensures (c.fill_examined.ensures ∙ filled) in
+    c.in-Ok.is c.success.ensures (c.fill_examined.ensures ∙ filled) in
     record { value = both.0; written = both.1 }

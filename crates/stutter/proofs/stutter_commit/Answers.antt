@@ -7,21 +7,21 @@ use Rattle.stutter.proofs.InterfaceLaws.{answer-room, slip-room}
 use Rattle.stutter.proofs.stutter_commit.Goals as goal
 
 pub slip_in-requires : goal.slip_in-requires
-slip_in-requires c = slip-room _ _ (sym c.have_room.ensures ∙ c.if-have_room.true)
+slip_in-requires c = slip-room _ _ (sym c.have_room.ensures ∙ c.if-not-have_room.false)
 
-pub returns-then-have_room : goal.returns-then-have_room
+pub returns : goal.returns
 unfolding where_both
-returns-then-have_room c =
+returns c =
     let a = c.args in
-    let room = sym c.have_room.ensures ∙ c.if-have_room.true in
+    let room = sym c.have_room.ensures ∙ c.if-not-have_room.false in
     let slip = c.slip_in.ensures in
     let done = c.commit-numbers.ensures in
     let put = c.put_numbers.ensures in
     let answer = commit_answer a.left.now a.right.now a.relation.now (slip_in a.slip.now) a.output.now in
     record { room = put.room ∙ answer-room _ _ room ∙ sym room; put = simp room (put.put ∙ ap (λ (x : Answer). answered x a.answer.now) {y = answer} (rw slip at done.value)); written = simp room (rw slip at done.written) }
 
-pub returns-else-have_room : goal.returns-else-have_room
+pub returns-then-not-have_room : goal.returns-then-not-have_room
 unfolding where_both
-returns-else-have_room c =
-    let short = sym c.have_room.ensures ∙ c.if-have_room.false in
+returns-then-not-have_room c =
+    let short = sym c.have_room.ensures ∙ c.if-not-have_room.true in
     record { room = sym short; put = simp short; written = simp short }

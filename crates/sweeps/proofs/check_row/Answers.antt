@@ -1,50 +1,47 @@
--- `sweeps::check_row` meets its contract: the word's states are met in rising order, each taken out when it has been checked. Assumes nothing.
-use mathlib.Core.Path.{sym, ap, ◌∙◌}
+-- `sweeps::check_row` meets its contract: the word's states are met in rising order. Assumes nothing.
+use mathlib.Core.Path.{refl, sym, ap, ◌∙◌}
 use native.Mathlib.Omega.{arith}
-use Rattle.words.specs.Bits.{first_bit}
-use Rattle.sweeps.proofs.CheckLaws.{row-start, next-greater, pair-stops, pair-passes, row-end}
+use Rattle.std.proofs.lemmas.Result.{err_from_is_err_and}
+use Rattle.words.specs.declared.Row.{Row}
+use Rattle.sweeps.proofs.CheckLaws.{row-start, pair-stops, pair-passes, row-end}
 use Rattle.sweeps.proofs.check_row.Goals as goal
 
 pub loop-t-init : goal.loop-t-init
 loop-t-init c =
     let a = c.args in
-    row-start a.ours.now a.theirs.now a.certificate.now a.left a.right a.s a.tally c.related-rest.ensures.value
-    c.related-rest.ensures.small c.first-t.ensures
+    let e = ap (λ (r : Row). r.0) c.into_iter-t-iterator.ensures.into_iter_gives in
+    row-start a.view.ours.now a.view.theirs.now a.ranks.certificate.now a.ranks.left a.ranks.right a.s a.tally (e ∙ c.related-t-items.ensures.value) (omega arith) refl
 
-pub check_pair-end-requires : goal.check_pair-end-requires
-check_pair-end-requires c =
-    let l = c.loop-t in
-    let n = l.invariant.counted in
-    omega arith
-
-pub returns-in_default : goal.returns-in_default
-returns-in_default c =
+pub returns-then-n-t : goal.returns-then-n-t
+returns-then-n-t c =
     let a = c.args in
     let l = c.loop-t in
-    let g = c.in_default.is in
-    g ∙ sym (pair-stops a.ours.now a.theirs.now a.certificate.now a.left a.right a.s a.tally l.met l.rest.0 l.t
-    l.invariant _ (omega arith) (sym c.check_pair-end.ensures ∙ g))
+    let n = c.in-Some.ensures.steps in
+    sym (row-end a.view.ours.now a.view.theirs.now a.ranks.certificate.now a.ranks.left a.ranks.right a.s a.tally l.met l.t-iterator.rest.0
+    _ l.invariant (omega arith))
 
-pub loop-t-smaller : goal.loop-t-smaller
-loop-t-smaller c =
+pub returns-in_err-met : goal.returns-in_err-met
+returns-in_err-met c =
     let a = c.args in
+    let p = err_from_is_err_and c.from_residual.result c.from_residual.ensures.1 in
     let l = c.loop-t in
-    let n = next-greater a.ours.now a.theirs.now a.certificate.now a.left a.right a.s a.tally l.met l.rest.0 l.t
-    l.invariant (omega arith) in
-    let e = c.first-t-in-loop-t.ensures ∙ ap first_bit c.remove-rest.ensures in
-    omega arith
+    let n = c.in-Some.ensures.steps in
+    rw (p.1, p.2)
+    (sym (pair-stops a.view.ours.now a.view.theirs.now a.ranks.certificate.now a.ranks.left a.ranks.right a.s a.tally l.met l.t-iterator.rest.0 c.in-Some.t
+    (rw (← n.1) at l.invariant) _ (omega arith) (sym c.check_pair.ensures ∙ c.in_err-met.was)))
 
 pub loop-t-preserved : goal.loop-t-preserved
 loop-t-preserved c =
-    let check-pair = c.check_pair-end in
     let a = c.args in
     let l = c.loop-t in
-    pair-passes a.ours.now a.theirs.now a.certificate.now a.left a.right a.s a.tally l.met l.rest.0 l.t l.invariant
-    c.in-On.more (omega arith) (sym check-pair.ensures ∙ c.in-On.is) c.remove-rest.ensures c.first-t-in-loop-t.ensures
+    let n = c.in-Some.ensures.steps in
+    pair-passes a.view.ours.now a.view.theirs.now a.ranks.certificate.now a.ranks.left a.ranks.right a.s a.tally l.met l.t-iterator.rest.0 c.in-Some.t (rw (← n.1) at l.invariant)
+    c.in_ok-met.met (omega arith) (sym c.check_pair.ensures ∙ c.in_ok-met.was) n.2 refl
 
 pub returns : goal.returns
 returns c =
     let a = c.args in
     let l = c.loop-t in
-    sym (row-end a.ours.now a.theirs.now a.certificate.now a.left a.right a.s a.tally l.met l.rest.0
-    l.t l.invariant (omega arith))
+    let n = c.in-None.ensures.steps in
+    sym (row-end a.view.ours.now a.view.theirs.now a.ranks.certificate.now a.ranks.left a.ranks.right a.s a.tally l.met l.t-iterator.rest.0
+    _ l.invariant (omega arith))

@@ -3,6 +3,7 @@ use Prim.Native.Nat.{◌<◌}
 use mathlib.Core.Path.{◌≡◌, sym, ◌∙◌}
 use native.Mathlib.Omega.{arith}
 use Rattle.lists.proofs.BelowLaws.{first-start, first-miss, first-hit}
+use Rattle.lists.proofs.FoundLaws.{found-is, none-found}
 use Rattle.table_reader.proofs.SeenLaws.{seen_none, seen-doubled, seen_more}
 use Rattle.table_reader.proofs.first_doubled.Goals as goal
 use Rattle.table_reader.proofs.first_doubled.Goals.{After-to-u}
@@ -14,22 +15,16 @@ inside c =
     (rw c.from-s.ensures.value below.0, rw c.to-u.ensures.value below.1)
 
 pub loop-j-init : goal.loop-j-init
-loop-j-init c = (omega arith, first-start _, seen_none _ _ c.empty-seen.result c.empty-seen.ensures)
-
-pub bounds-seen-s : goal.bounds-seen-s
-bounds-seen-s c = (inside (goal.at.bounds-seen-s c).After-to-u).0
+loop-j-init c = (first-start _, seen_none _ _ c.empty-seen.result c.empty-seen.ensures)
 
 pub returns-then-has : goal.returns-then-has
 returns-then-has c =
     let l = c.loop-j in
     let s = c.from-s.ensures.value in
     let u = c.to-u.ensures.value in
-    let m = c.args.m in
-    let d = seen-doubled _ _ l.j l.invariant.2 s u (inside (goal.at.returns-then-has c).After-to-u).0 in
-    sym (first-hit _ l.j m l.invariant.1 (omega arith) (d ∙ sym c.has.ensures ∙ c.if-has.true))
-
-pub bounds-seen-s-in-loop-j : goal.bounds-seen-s-in-loop-j
-bounds-seen-s-in-loop-j c = (inside (goal.at.bounds-seen-s-in-loop-j c).After-to-u).0
+    let d = seen-doubled _ _ l.j l.invariant.1 s u (inside (goal.at.returns-then-has c).After-to-u).0 in
+    let e = first-hit _ l.j c.args.m l.invariant.0 (omega arith) (d ∙ sym c.has.ensures ∙ c.if-has.true) in
+    sym (found-is _ _ e (omega arith))
 
 pub loop-j-preserved : goal.loop-j-preserved
 loop-j-preserved c =
@@ -37,13 +32,10 @@ loop-j-preserved c =
     let s = c.from-s.ensures.value in
     let u = c.to-u.ensures.value in
     let i = inside (goal.at.loop-j-preserved c).After-to-u in
-    let d = seen-doubled _ _ l.j l.invariant.2 s u i.0 in (
-      omega arith,
-      first-miss _ l.j l.invariant.1 (d ∙ sym c.has.ensures ∙ c.if-has.false),
-      seen_more _ _ l.j l.seen l.invariant.2 s u i.0 i.1 c.add-more.result c.add-more.ensures,
+    let d = seen-doubled _ _ l.j l.invariant.1 s u i.0 in (
+      first-miss _ l.j l.invariant.0 (d ∙ sym c.has.ensures ∙ c.if-has.false),
+      seen_more _ _ l.j l.seen l.invariant.1 s u i.0 i.1 c.add.result c.add.ensures,
     )
 
 pub returns : goal.returns
-returns c =
-    let e : c.loop-j.j ≡ c.args.m = omega arith in
-    cc
+returns c = let e : c.loop-j.j ≡ c.args.m = omega arith in sym (none-found _ _ (rw (← e) c.loop-j.invariant.0))

@@ -1,37 +1,19 @@
--- `table_reader::first_outside` meets its contract: the loop has found no step with an end outside below j. Assumes nothing.
-use mathlib.Core.Path.{◌≡◌, sym}
-use mathlib.Core.Logic.{inl, inr, ⊎_elim}
+-- `table_reader::first_outside` meets its contract: the search passes the steps whose ends are both below n. Assumes nothing.
+use mathlib.Core.Path.{refl}
+use native.Mathlib.Nat.{not-suc-le-zero}
 use native.Mathlib.Omega.{arith}
-use Rattle.lists.proofs.BelowLaws.{first-start, first-miss, first-hit}
-use Rattle.answers.proofs.DecideLaws.{decides-true, decides-false}
-use Rattle.table_reader.proofs.TestLaws.{outside-decides}
+use lib.Dec.{T}
+use borrow.Author.Tests.{tests}
+use Rattle.std.proofs.Common.{rules}
+use Rattle.std.proofs.lemmas.Iterator.{first_from_Range}
+use Rattle.table_reader.specs.TableReading.{ends_outside}
+use Rattle.lists.proofs.FoundLaws.{found-from}
 use Rattle.table_reader.proofs.first_outside.Goals as goal
 
-pub loop-j-init : goal.loop-j-init
-loop-j-init c = (omega arith, first-start _)
-
-pub returns-then-n-from : goal.returns-then-n-from
-returns-then-n-from c =
-    let a = c.args in
-    let l = c.loop-j in
-    sym (first-hit _ l.j a.m l.invariant.1 (omega arith) (decides-true (outside-decides a.format a.steps.now a.n l.j) (inl (omega arith))))
-
-pub returns-then-n-to : goal.returns-then-n-to
-returns-then-n-to c =
-    let a = c.args in
-    let l = c.loop-j in
-    sym (first-hit _ l.j a.m l.invariant.1 (omega arith) (decides-true (outside-decides a.format a.steps.now a.n l.j) (inr (omega arith))))
-
-pub loop-j-preserved : goal.loop-j-preserved
-loop-j-preserved c =
-    let a = c.args in
-    let l = c.loop-j in (
-      omega arith,
-      first-miss _ l.j l.invariant.1
-          (decides-false (outside-decides a.format a.steps.now a.n l.j) (⊎_elim (λ h. omega arith) (λ h. omega arith))),
-    )
-
 pub returns : goal.returns
+unfolding ends_outside
 returns c =
-    let e : c.loop-j.j ≡ c.args.m = omega arith in
-    cc
+    let a = c.args in
+    let p = ends_outside a.format a.steps.now a.n in
+    found-from a.m p 0 (λ k l. absurd (not-suc-le-zero l)) p (λ k l. refl) _
+    (first_from_Range _ _ _ _ (λ j. T (p j)) (λ j. T (p j) → ⊥) c.find.ensures.ran (λ j q k. grind (arith, tests)) (λ j q k. (search rules, grind (arith, tests))))

@@ -1,9 +1,5 @@
--- `tables::steps_at` meets its contract: the steps begin after the header and the labels. Assumes nothing.
-use Prim.Native.Nat.{ℕ, ◌+◌, ◌*◌}
-use mathlib.Core.Path.{ap, ap₂, ◌∙◌}
+-- `tables::steps_at`: the sum fits, since a header, a label and the states are few. Assumes nothing.
 use native.Mathlib.Omega.{arith}
-use Rattle.tables.specs.declared.Layout.{Layout}
-use Rattle.tables.specs.Table.{layout_of, steps_at}
 use Rattle.tables.proofs.LayoutLaws.{layout-fits, items-few}
 use Rattle.tables.proofs.steps_at.Goals as goal
 
@@ -17,8 +13,7 @@ overflow_add-result c =
     let f = layout-fits c.format_of.result c.layout-layout.ensures in
     omega (arith, items-few c.states.ensures.small f.label-most, f.header-most)
 
-pub returns : goal.returns
-unfolding steps_at
-returns c =
+pub returns-clause-small : goal.returns-clause-small
+returns-clause-small c =
     let f = layout-fits c.format_of.result c.layout-layout.ensures in
-    let e = c.layout-layout.ensures ∙ ap layout_of c.format_of.ensures in record { value = ap₂ (λ (l : Layout) (n : ℕ). l.header + n * l.label) e c.states.ensures.value; small = omega (arith, items-few c.states.ensures.small f.label-most, f.header-most) }
+    omega (arith, items-few c.states.ensures.small f.label-most, f.header-most)
