@@ -101,6 +101,7 @@ impl Run {
 
 impl<'a> Ranks<'a> {
     // The A rank of s at t; a state of 64 or more has rank 0.
+    #[inline(always)]
     fn stutter_at(self, s: usize, t: usize) -> usize
         ensures { result ≡ stutter_at self.entry.certificate.now self.entry.run s t }
     {
@@ -113,6 +114,7 @@ impl<'a> Ranks<'a> {
     }
 
     // The certificate from the C ranks of step j on; a step of 256 or more has none.
+    #[inline(always)]
     fn match_row(self, j: usize) -> &'a [u8]
         ensures { result.now ≡ match_row self.entry.certificate.now self.entry.run j }
     {
@@ -141,6 +143,7 @@ impl<'a> BothRanks<'a> {
     }
 
     // The left side's.
+    #[inline(always)]
     pub fn of_left(self) -> Ranks<'a>
         ensures certificate { result.certificate.now ≡ self.entry.certificate.now }
         ensures run { result.run ≡ self.entry.left }
@@ -152,6 +155,7 @@ impl<'a> BothRanks<'a> {
     }
 
     // The right side's.
+    #[inline(always)]
     pub fn of_right(self) -> Ranks<'a>
         ensures certificate { result.certificate.now ≡ self.entry.certificate.now }
         ensures run { result.run ≡ self.entry.right }
@@ -164,6 +168,7 @@ impl<'a> BothRanks<'a> {
 }
 
 // The smallest state that meets the obligation of our step j at t by 2a, if there is one.
+#[inline(always)]
 pub fn serving_state(view: View, j: usize, t: usize) -> Option<usize>
     ensures { result ≡ some_below 64 (serving_in view.entry.ours.now view.entry.theirs.now j t) }
 {
@@ -174,6 +179,7 @@ pub fn serving_state(view: View, j: usize, t: usize) -> Option<usize>
 }
 
 // Whether our step j, which enters u, stays at t: it is silent, and u and t are related.
+#[inline(always)]
 fn stays(ours: &Side, j: usize, u: usize, t: usize) -> bool
     ensures { result ≡ ((system_in ours.now).silent j && has_bit (related_to ours.now u) t) }
 {
@@ -181,6 +187,7 @@ fn stays(ours: &Side, j: usize, u: usize, t: usize) -> bool
 }
 
 // The outcome of the obligation of our step j at t where 2a does not hold, with the ranks that stand in the certificate.
+#[inline(always)]
 pub fn outcome_by_ranks(view: View, ranks: Ranks, j: usize, t: usize) -> Outcome
     ensures { result
         ≡ outcome_by_ranks view.entry.ours.now view.entry.theirs.now ranks.entry.certificate.now ranks.entry.run j t }

@@ -43,6 +43,7 @@ impl Tally {
 }
 
 // The obligation of our step j at the place: counted by the clause that meets it, or the answer that refuses it. Most are met by 2a, which looks at no rank.
+#[inline(always)]
 fn check_step(
     view: View,
     ranks: Ranks,
@@ -65,6 +66,7 @@ fn check_step(
 }
 
 // The obligations of our steps from the place's own state, in the order in which the links lead along them.
+#[inline(always)]
 fn sweep(view: View, ranks: Ranks, place: Place, tally: Tally) -> Result<Tally, Answer>
     requires { total tally < 2 ^ 31 }
     ensures { result
