@@ -56,7 +56,10 @@ fn read_header(certificate: &[u8], sizes: Sizes) -> Result<Sizes, CertificateRef
 pub fn read_certificate(certificate: &[u8], sizes: Sizes) -> Result<Sizes, CertificateRefusal>
     ensures { result ≡ read_certificate sizes certificate.now }
 {
-    let found = read_header(certificate, sizes)?;
+    let read = read_header(certificate, sizes);
+    let Ok(found) = read else {
+        return read;
+    };
     let rows = rows(certificate, found);
     match first_wide_row(rows, usize::from(found.n1), usize::from(found.n2)) {
         Some(s) => Err(CertificateRefusal::RowBit(s)),

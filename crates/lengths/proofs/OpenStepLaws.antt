@@ -1,6 +1,6 @@
 -- Laws of the open steps: they are kept one by one, a round over them gives the chain lengths for one step more, and their chains are those of the side.
 -- The key idea: a step that is not open gives no state a length, so the greatest length over the kept steps is that over all steps. Assumes nothing.
-use Prim.Native.Nat.{ℕ, zero, suc, ◌+◌, ◌*◌, max, ◌≤◌, ◌<◌}
+use Prim.Native.Nat.{ℕ, zero, suc, ◌+◌, ◌*◌, max, ◌≤◌, ◌<◌, zero-le}
 use mathlib.Core.Path.{◌≡◌, refl, sym, ap, ap₂, ◌∙◌, subst}
 use mathlib.Core.Bool.{Bool, true, false, cond, ◌&&◌, and-true, and-false}
 use mathlib.Core.List.{List, [], ◌∷◌, ◌++◌}
@@ -146,6 +146,7 @@ module _ (S : System) (test : ℕ → Bool) where
   pub open-start : Open S test 0 []
   open-start =
       record {
+        few = zero-le;
         ends = record { from< = λ i h. absurd (not-suc-le-zero h); to< = λ i h. absurd (not-suc-le-zero h) };
         same = λ lengths s h. longest-none (kept_system []) lengths every s ∙ sym (longest-none S lengths test s);
       }
@@ -158,7 +159,9 @@ module _ (S : System) (test : ℕ → Bool) where
         let p = true-T _ (sym r-is ∙ h) in
         let low : step.from < 64 = rw a-is (ltb→lt _ _ (and_l (ltb (S.from j) 64) (test j) p)) in
         let passes : test j ≡ true = T_true _ (and_r (ltb (S.from j) 64) (test j) p) in
+        let one-more : length (kept ++ (step ∷ [])) ≡ length kept + 1 = length-append kept (step ∷ []) in
         record {
+          few = omega (arith, one-more, o.few);
           ends = record {
             from< = kept-each kept step (λ k. k.from < 64) low o.ends.from<;
             to< = kept-each kept step (λ k. k.to < 64) small o.ends.to<;
@@ -176,6 +179,7 @@ module _ (S : System) (test : ℕ → Bool) where
     unfolding is_open longest
     open-skip h =
         record {
+          few = omega (arith, o.few);
           ends = o.ends;
           same = λ lengths s k.
               o.same lengths s k ∙ sym (most-more j (given lengths s)

@@ -1,5 +1,5 @@
 -- Inner: the open steps of a side at a state t of the other side, those that may stand in a chain at t, kept in a list of their own, and one round over them.
-use Rattle.std.specs.Prelude.{ℕ, suc, ◌<◌, ◌≡◌, Bool, true, false, cond, ◌&&◌, List, ltb, eqb, length, get_or}
+use Rattle.std.specs.Prelude.{ℕ, suc, ◌≤◌, ◌<◌, ◌≡◌, Bool, true, false, cond, ◌&&◌, List, ltb, eqb, length, get_or}
 use Rattle.lists.specs.Below.{most_below}
 use Rattle.bisimulation.specs.Systems.{System}
 use Rattle.lengths.specs.declared.Kept.{Kept}
@@ -38,7 +38,8 @@ pub record Ends (kept : List Kept) : Type 0 where
   pub from< : (i : ℕ) → i < length kept → (kept_at kept i).from < 64
   pub to< : (i : ℕ) → i < length kept → (kept_at kept i).to < 64
 
--- The list has the open ones of the first j steps: they lie below 64, and give each state the same greatest length.
+-- The list has the open ones of the first j steps: they are as many at most, lie below 64, and give each state the same greatest length.
 pub record Open (S : System) (test : ℕ → Bool) (j : ℕ) (kept : List Kept) : Type 0 where
+  pub few : length kept ≤ j
   pub ends : Ends kept
   pub same : (lengths : ℕ → ℕ) (s : ℕ) → s < 64 → longest (kept_system kept) every lengths (length kept) s ≡ longest S test lengths j s

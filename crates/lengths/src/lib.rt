@@ -81,7 +81,9 @@ fn start(view: View, j: usize, row: &mut Lengths) -> bool
     !rest.is_empty()
 }
 
-// One round over their steps: each silent one shortens the length at the state it leaves, where it can. Whether one did.
+// One round over their steps: each silent one shortens the length at the state it leaves, where it can. Whether one did. A call of its own: made one loop with
+// that over the rounds, a turn of it takes half as long again.
+#[inline(never)]
 fn relax(view: View, j: usize, row: &mut Lengths) -> bool
     requires { Bounds (view_in view.ours.now view.theirs.now) j (system_in view.theirs.now).steps row.old }
     ensures { Round (view_in view.entry.ours.now view.entry.theirs.now) j (system_in view.entry.theirs.now).steps

@@ -1,6 +1,6 @@
 -- Laws of lists filled by index, and of loops that fill a list: by index (`Filled`), part after part (`Front`) and row after row (`Rows`). Each loop has a
 -- law for its start, for one turn and for its end. Assumes nothing.
-use mathlib.Core.Path.{◌≡◌, refl, sym, ap, ◌∙◌, subst}
+use mathlib.Core.Path.{◌≡◌, refl, sym, ap, ap₂, ◌∙◌, subst}
 use mathlib.Core.List.{List, [], ◌∷◌, ◌++◌, append_assoc, append-nil}
 use mathlib.Core.Logic.{⊎_elim}
 use Prim.Native.Nat.{ℕ, zero, suc, ◌+◌, ◌*◌, ◌-◌, ◌/◌, ◌%◌, ◌<◌, ◌≤◌, zero-le}
@@ -217,6 +217,10 @@ front-put-at {d} {l} {e} a p h w =
 -- a front that is written, part after part or by index, is put
 pub front-put : {p d l : List ℕ} {a : ℕ} → Front p d l a → l ≡ put_front p d
 front-put {p} {d} {l} {a} w = w.eq ∙ ap (λ (k : ℕ). p ++ drop k d) (sym w.front) ∙ sym (put-front-fits p d (omega arith))
+
+pub filled_put : {n : ℕ} (p : List ℕ) {d l : List ℕ} → Filled n (λ (k : ℕ). get_or p k 0) d l → n ≡ length p → l ≡ put_front p d
+filled_put {n} p {d} {l} w e =
+    w.eq ∙ ap₂ ◌++◌ (tabulate-of p n e) (ap (λ (k : ℕ). drop k d) e) ∙ sym (put-front-fits p d (omega (arith, w.le)))
 
 -- ---- rows of m
 

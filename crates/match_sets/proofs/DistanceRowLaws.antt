@@ -60,6 +60,13 @@ module _ {v : View} {count j a : ℕ} {at : List ℕ} (d : DistanceRows v count 
         few = d.few;
       }
 
+  -- the same where it is copied into its part
+  pub distance-rows-copied : {row ys : List ℕ} → j < count → row ≡ tabulate 64 (distance v j) → ys ≡ row
+      → DistanceRows v count (j + 1) (a + 64) (put_mid a (a + 64 - a) at ys)
+  distance-rows-copied {row} {ys} h r e =
+      let whole = rows-part 256 d.rows table-room (omega (arith, d.few)) in
+      distance-rows-more h r (e ∙ sym (put-front-whole row (part at a (a + 64)) (whole ∙ sym (ap length r ∙ length-tabulate 64 (distance v j)))))
+
   pub distance-rows-all : count ≤ j → at ≡ grid 256 64 (distance_at v)
   distance-rows-all h =
       rows-rest 256 d.rows table-room (λ i t p q l.

@@ -172,7 +172,9 @@ fn blank_slip() -> Slip
 
 // ---- the maker
 
-// The answer where both tables and the relation are read: 21 where the output has no room, what the examination refuses, or the length of the file.
+// The answer where both tables and the relation are read: 21 where the output has no room, what the examination refuses, or the length of the file. A call
+// of its own, so that what is refused before takes none of its stack.
+#[inline(never)]
 fn make_read<F: Finder>(
     left: &[u8],
     right: &[u8],

@@ -7,8 +7,7 @@ use mathlib.Core.List.{List}
 use native.Mathlib.Omega.{arith}
 use native.Mathlib.Decide.{ℕ_discrete, dec_lt}
 use lib.Dec.{T, eqb, leb, eqb→eq, leb→le, le→leb}
-use lib.ListN.{length-set}
-use lib.Seq.{get_or-set_same, get_or-set_other}
+use lib.ListN.{length-set, get_or}
 use borrow.Author.Tests.{le-ltb, eq-eqb, ne_eqb}
 use Rattle.std.proofs.lemmas.List.{get_or_past}
 use Rattle.lists.specs.Below.{any_below}
@@ -23,6 +22,7 @@ use Rattle.sides.specs.Side.{system_in, key_at, silent_from, first_step, link_at
 use Rattle.sides.specs.Built.{NextFrom, LinkedFrom, Roomy, TableIn, goes_by}
 use Rattle.sides.specs.Building.{Unlinked, put_linked, relinked}
 use Rattle.sides.proofs.GroupLaws.{entered-known, entered-small}
+use Rattle.sides.proofs.StoreLaws.{put_same, put_other, entered-apart}
 
 module _ (m : ℕ) (P : ℕ → Bool) where
   -- one step earlier
@@ -109,39 +109,39 @@ module _ {side : Side} {j : ℕ} (w : LinkedFrom (system_in side) (key_at side) 
 
   -- the word at s of a silent step, and as before otherwise
   silent-here : key ≡ 0 → s < 64 → silent_from after s ≡ word
-  silent-here e hs = rw (eq-eqb key 0 e) (get_or-set_same side.silent s word 0 (rw w.roomy.silent-room hs))
+  silent-here e hs = rw (eq-eqb key 0 e) (put_same side.silent s word 0 (rw w.roomy.silent-room hs))
 
   silent-other : key ≡ 0 → (x : ℕ) → (x ≡ s → ⊥) → silent_from after x ≡ silent_from side x
-  silent-other e x d = rw (eq-eqb key 0 e) (get_or-set_other side.silent s x word 0 d)
+  silent-other e x d = rw (eq-eqb key 0 e) (put_other side.silent s word 0 x d)
 
   silent-kept : (key ≡ 0 → ⊥) → (x : ℕ) → silent_from after x ≡ silent_from side x
-  silent-kept n x = rw (ne_eqb key 0 n)
+  silent-kept n x = ap (λ (l : List ℕ). get_or l x 0) ((entered-apart side s j key word).silent n)
 
   -- the word at j of any other, and as before otherwise
   group-here : (key ≡ 0 → ⊥) → group_at after j ≡ word
-  group-here n = rw (ne_eqb key 0 n) (get_or-set_same side.group j word 0 (rw w.roomy.group-room hj))
+  group-here n = rw (ne_eqb key 0 n) (put_same side.group j word 0 (rw w.roomy.group-room hj))
 
   group-silent : key ≡ 0 → (x : ℕ) → group_at after x ≡ group_at side x
-  group-silent e x = rw (eq-eqb key 0 e)
+  group-silent e x = ap (λ (l : List ℕ). get_or l x 0) ((entered-apart side s j key word).group e)
 
   group-other : (x : ℕ) → (x ≡ j → ⊥) → group_at after x ≡ group_at side x
   group-other x d = elim (ℕ_discrete key 0) [
     | yes e ↦ group-silent e x
-    | no n ↦ rw (ne_eqb key 0 n) (get_or-set_other side.group j x word 0 d)
+    | no n ↦ rw (ne_eqb key 0 n) (put_other side.group j word 0 x d)
   ]
 
   -- the link of the step itself, and that of the state that it leaves
   next_here : link_at after j ≡ first_step side s
-  next_here = get_or-set_same side.next j (first_step side s) 0 (rw w.roomy.next-room hj)
+  next_here = put_same side.next j (first_step side s) 0 (rw w.roomy.next-room hj)
 
   next-other : (x : ℕ) → (x ≡ j → ⊥) → link_at after x ≡ link_at side x
-  next-other x d = get_or-set_other side.next j x (first_step side s) 0 d
+  next-other x d = put_other side.next j (first_step side s) 0 x d
 
   first-here : s < 64 → first_step after s ≡ j
-  first-here hs = get_or-set_same side.first s j 256 (rw w.roomy.first-room hs)
+  first-here hs = put_same side.first s j 256 (rw w.roomy.first-room hs)
 
   first-other : (x : ℕ) → (x ≡ s → ⊥) → first_step after x ≡ first_step side x
-  first-other x d = get_or-set_other side.first s x j 256 d
+  first-other x d = put_other side.first s j 256 x d
 
   roomy-after : Roomy after
   roomy-after =

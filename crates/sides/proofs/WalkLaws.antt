@@ -1,10 +1,12 @@
 -- Laws of the walk along the links of a side. Assumes nothing.
-use Prim.Native.Nat.{ℕ, zero, suc, ◌-◌, ◌≤◌, ◌<◌}
+use Prim.Native.Nat.{ℕ, zero, suc, ◌+◌, ◌-◌, ◌≤◌, ◌<◌, zero-le}
 use mathlib.Core.Path.{◌≡◌, refl, sym, ap, ◌∙◌}
 use mathlib.Core.List.{List, [], ◌∷◌}
 use native.Mathlib.Omega.{arith}
 use native.Mathlib.Decide.{dec_lt}
 use lib.ListN.{length, get_or}
+use lib.Dec.{ltb}
+use mathlib.Core.Bool.{cond}
 use borrow.Author.Tests.{lt-ltb, le-ltb}
 use Rattle.sides.specs.declared.Side.{Side}
 use Rattle.sides.specs.declared.StepsFrom.{StepsFrom}
@@ -52,10 +54,53 @@ module _ (side : Side) where
   unfolding linked_from
   walk_end j h = rw (le-ltb j 256 h)
 
+  -- it goes on where the link leads, if that is a later step
+  pub walk-link : (j : ℕ) → j < 256 → linked_from side 256 j ≡ j ∷ cond (ltb (link_at side j) (j + 1)) [] (linked_from side 256 (link_at side j))
+  unfolding next_step
+  walk-link j h = walk-next j h ∙ ap (λ (x : List ℕ). j ∷ x) (elim (dec_lt j (link_at side j)) [
+    | yes l ↦ rw (lt-ltb j (link_at side j) l, le-ltb (link_at side j) (j + 1) (omega arith))
+    | no l ↦ rw (le-ltb j (link_at side j) (omega arith), lt-ltb (link_at side j) (j + 1) (omega arith)) (walk_end 256 (omega arith))
+  ])
+
+-- ---- the steps that a walk has left
+
+module _ (walk : StepsFrom) where
+  -- none, where its link leads below the least or past the last step
+  pub left-none : walk.next < walk.least → steps_left walk ≡ []
+  unfolding steps_left
+  left-none h = rw (lt-ltb walk.next walk.least h)
+
+  pub left-past : 256 ≤ walk.next → steps_left walk ≡ []
+  unfolding steps_left
+  left-past h = elim (dec_lt walk.next walk.least) [
+    | yes l ↦ rw (lt-ltb walk.next walk.least l)
+    | no l ↦ rw (le-ltb walk.next walk.least (omega arith)) (walk_end walk.side.now walk.next h)
+  ]
+
+  -- all from its first step on, where it begins
+  pub left-first : walk.least ≡ 0 → steps_left walk ≡ linked_from walk.side.now 256 walk.next
+  unfolding steps_left
+  left-first e = rw (e, le-ltb walk.next 0 zero-le)
+
+  -- the step to which it leads, and those that are left after it
+  left-on : walk.least ≤ walk.next → walk.next < 256
+      → steps_left walk ≡ walk.next ∷ cond (ltb (link_at walk.side.now walk.next) (walk.next + 1)) []
+      (linked_from walk.side.now 256 (link_at walk.side.now walk.next))
+  unfolding steps_left
+  left-on a b = rw (le-ltb walk.next walk.least a) (walk-link walk.side.now walk.next b)
+
+  pub left-next : walk.least ≤ walk.next → walk.next < 256 → {k : ℕ} → k ≡ link_at walk.side.now walk.next
+      → steps_left walk ≡ walk.next ∷ steps_left (record { side = walk.side; next = k; least = walk.next + 1 })
+  unfolding steps_left
+  left-next a b e =
+      left-on a b ∙ ap (λ (k : ℕ). walk.next ∷ cond (ltb k (walk.next + 1)) [] (linked_from walk.side.now 256 k)) (sym e)
+
 -- what a walk gives is a step
 pub left-below : (walk : StepsFrom) {j : ℕ} {js : List ℕ} → steps_left walk ≡ j ∷ js → j < 256
-unfolding linked_from
-left-below walk {j} e = elim (dec_lt walk.next 256) [
-  | yes l ↦ rw (← ap (λ (l : List ℕ). get_or l 0 0) (sym (walk-next walk.side.now walk.next l) ∙ e)) l
-  | no l ↦ (let d = ap length (sym e ∙ walk_end walk.side.now walk.next (omega arith)) in absurd (omega (arith, d)))
+left-below walk {j} {js} e = elim (dec_lt walk.next walk.least) [
+  | yes b ↦ (let d = ap length (sym e ∙ left-none walk b) in absurd (omega (arith, d)))
+  | no b ↦ elim (dec_lt walk.next 256) [
+    | yes l ↦ rw (← ap (λ (l : List ℕ). get_or l 0 0) (sym (left-on walk (omega arith) l) ∙ e)) l
+    | no l ↦ (let d = ap length (sym e ∙ left-past walk (omega arith)) in absurd (omega (arith, d)))
+  ]
 ]

@@ -66,9 +66,9 @@ linked_from side (suc k) j = cond (ltb j max_steps) (j ∷ linked_from side k (n
 unfoldable pub steps_in : Side → ℕ → List ℕ
 steps_in side s = linked_from side max_steps (first_step side s)
 
--- The steps that a walk has left.
-abbrev pub steps_left : StepsFrom → List ℕ
-steps_left walk = linked_from walk.side.now max_steps walk.next
+-- The steps that a walk has left: those from the step on to which its link leads, and none where that is below the least.
+unfoldable pub steps_left : StepsFrom → List ℕ
+steps_left walk = cond (ltb walk.next walk.least) [] (linked_from walk.side.now max_steps walk.next)
 
 -- The word of the first of the steps that has this key, and the empty word where none has it.
 unfoldable pub group_along : Side → ℕ → List ℕ → ℕ

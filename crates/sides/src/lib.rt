@@ -5,16 +5,16 @@
 
 ghost use Rattle.std.specs.Prelude.{◌≡◌, ◌^◌, ◌≤◌, ◌<◌, set};
 ghost use Rattle.std.specs.Iterator.{YieldsFirst, item_count};
-ghost use Rattle.sides.specs.Side.{next_step, steps_in, steps_left};
+ghost use Rattle.sides.specs.Side.{steps_in, steps_left};
 ghost use Rattle.sides.specs.Side.{system_in, start_word_in, key_at, related_to, silent_from, first_step, link_at, group_at, entered_by};
 ghost use Rattle.sides.specs.Built.{SideOf};
-ghost use Rattle.sides.specs.Building.{Unlinked, put_entered, relinked};
+ghost use Rattle.sides.specs.Building.{put_entered, relinked};
 
 use tables::Head;
 use words::Row;
 
 // One table and the relation, seen from it. A number of states or of steps above the limits counts as the limit.
-#[derive(Drop)]
+#[derive(Clone, Copy)]
 pub struct Side {
     pub states: usize,
     pub steps: usize,
@@ -35,11 +35,12 @@ pub struct Side {
     pub group: [u64; Head::MAX_STEPS],
 }
 
-// A walk along the links of a side: `next` is the step that comes next, and 256 where none is left.
+// A walk along the links of a side: `next` is the link that is followed next. One to a step below `least` leads nowhere, as one past the last step does.
 #[derive(Clone, Copy)]
 pub struct StepsFrom<'a> {
     side: &'a Side,
     next: usize,
+    least: usize,
 }
 
 impl<'a> Iterator for StepsFrom<'a> {
@@ -50,9 +51,11 @@ impl<'a> Iterator for StepsFrom<'a> {
     ghost remaining = { item_count steps_left };
 
     fn next(&mut self) -> Option<usize> {
+        // Whether a link leads on is told when it is followed: told before, it would be a choice between two numbers, for which the next read has to wait.
         let j = self.next;
-        if j < Head::MAX_STEPS {
-            self.next = self.side.after(j);
+        if self.least <= j && j < Head::MAX_STEPS {
+            self.next = self.side.next(j);
+            self.least = j + 1;
             return Some(j);
         }
         None
@@ -168,23 +171,14 @@ impl Side {
         self.next.get(j).copied().unwrap_or(0)
     }
 
-    // The step after j from the same state, and 256 where there is none.
-    #[tactic(auto, unfolding(crate::specs::Side::next_step))]
-    fn after(&self, j: usize) -> usize
-        ensures { result ≡ next_step self.now j }
-    {
-        let later = self.next(j);
-        if j < later { later } else { Head::MAX_STEPS }
-    }
-
     // The steps from s, along the links.
-    #[tactic(auto, unfolding(crate::specs::Side::steps_in))]
     pub fn steps_from(&self, s: usize) -> StepsFrom<'_>
         ensures { steps_left result ≡ steps_in self.now s }
     {
         StepsFrom {
             side: self,
             next: self.first(s),
+            least: 0,
         }
     }
 
@@ -235,40 +229,6 @@ impl Side {
 
     // ---- how a side is made
 
-    // The header, the related states, the labels, and the ends and keys of the steps; no link yet.
-    fn unlinked(head: Head, labels: &[u8], steps: &[u8], words: &[u64; Head::MAX_STATES]) -> Self
-        ensures { Unlinked head labels.now steps.now words.now result }
-    {
-        let format = head.format;
-        let mut label = [0; Head::MAX_STATES];
-        for s in 0..Head::MAX_STATES {
-            label[s] = tables::label(labels, format, s);
-        }
-        let mut from = [0; Head::MAX_STEPS];
-        let mut to = [0; Head::MAX_STEPS];
-        let mut key = [0; Head::MAX_STEPS];
-        for j in 0..head.steps.min(Head::MAX_STEPS) {
-            from[j] = tables::from(steps, format, j);
-            to[j] = tables::to(steps, format, j);
-            key[j] = tables::key(steps, format, j);
-        }
-        Side {
-            states: head.states,
-            steps: head.steps,
-            initial: head.initial,
-            word: format.layout().word,
-            related: *words,
-            silent: [0; Head::MAX_STATES],
-            first: [Head::MAX_STEPS; Head::MAX_STATES],
-            label,
-            next: [0; Head::MAX_STEPS],
-            from,
-            to,
-            key,
-            group: [0; Head::MAX_STEPS],
-        }
-    }
-
     // Stores the states that steps with the key of step j from s enter, from j on: of a silent step at s, of any other at j.
     fn put_entered(&mut self, s: usize, j: usize, by: usize, states: Row)
         ensures { self.new ≡ put_entered self.old s j by states.0 }
@@ -298,7 +258,30 @@ impl Side {
     pub fn of(head: Head, labels: &[u8], steps: &[u8], words: &[u64; Head::MAX_STATES]) -> Self
         ensures { SideOf head labels.now steps.now words.now result }
     {
-        let mut side = Side::unlinked(head, labels, steps, words);
+        let format = head.format;
+        let mut side = Side {
+            states: head.states,
+            steps: head.steps,
+            initial: head.initial,
+            word: format.layout().word,
+            related: *words,
+            silent: [0; Head::MAX_STATES],
+            first: [Head::MAX_STEPS; Head::MAX_STATES],
+            label: [0; Head::MAX_STATES],
+            next: [0; Head::MAX_STEPS],
+            from: [0; Head::MAX_STEPS],
+            to: [0; Head::MAX_STEPS],
+            key: [0; Head::MAX_STEPS],
+            group: [0; Head::MAX_STEPS],
+        };
+        for s in 0..Head::MAX_STATES {
+            side.label[s] = tables::label(labels, format, s);
+        }
+        for j in 0..head.steps.min(Head::MAX_STEPS) {
+            side.from[j] = tables::from(steps, format, j);
+            side.to[j] = tables::to(steps, format, j);
+            side.key[j] = tables::key(steps, format, j);
+        }
         for j in (0..side.step_count()).rev() {
             side.link(j);
         }

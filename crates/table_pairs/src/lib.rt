@@ -2,10 +2,11 @@
 #![tactic(auto)]
 
 ghost use Rattle.std.specs.Prelude.{◌≡◌};
+ghost use Rattle.answers.specs.Verdicts.{refusal_of};
 ghost use Rattle.table_pairs.specs.TablePairs.{same_kind, tables_verdict};
 
 use answers::Answer;
-use table_reader::{Known, read_table};
+use table_reader::{Known, read_table, table_answer};
 use tables::{Head, is_keyed};
 
 // The headers of the two tables.
@@ -31,11 +32,11 @@ pub fn read_tables(left: &[u8], right: &[u8], known: Known) -> Result<Heads, Ans
 {
     let first = read_table(left, known);
     let Ok(head) = first else {
-        return Err(first.unwrap_err().answer(0));
+        return Err(table_answer(first, 0));
     };
     let second = read_table(right, known);
     let Ok(head2) = second else {
-        return Err(second.unwrap_err().answer(1));
+        return Err(table_answer(second, 1));
     };
     if !same_kind(left, right) {
         return Err(Answer::of(30, 1, 0));
@@ -44,4 +45,14 @@ pub fn read_tables(left: &[u8], right: &[u8], known: Known) -> Result<Heads, Ans
         left: head,
         right: head2,
     })
+}
+
+// The answer of a read that is refused; for any other it is blank.
+pub fn tables_answer(read: Result<Heads, Answer>) -> Answer
+    ensures { result ≡ refusal_of read }
+{
+    match read {
+        Ok(_) => Answer::of(0, 0, 0),
+        Err(answer) => answer,
+    }
 }

@@ -6,8 +6,11 @@ ghost use Rattle.tables.specs.Table.{magic_fits, from_of, to_of};
 ghost use Rattle.table_reader.specs.TableReading.{magic_known, head_of, wrong_starts, read_length, read_sizes, read_header, read_known};
 ghost use Rattle.table_reader.specs.TableReading.{ends_outside, doubled, greater, not_greater};
 ghost use Rattle.table_reader.specs.EndsSeen.{EndsBelow};
+ghost use Rattle.table_reader.specs.TableVerdicts.{table_verdict};
+ghost use Rattle.answers.specs.Verdicts.{refusal_of};
 ghost use Rattle.lists.specs.Below.{found_below};
 
+use answers::Answer;
 use lists::byte;
 use refusals::TableRefusal;
 use tables::{
@@ -168,7 +171,10 @@ fn first_not_greater(steps: &[u8], format: Format, m: usize) -> Option<usize>
 pub fn read_table(s: &[u8], known: Known) -> Result<Head, TableRefusal>
     ensures { result ≡ read_known known s.now }
 {
-    let head = read_header(s, known)?;
+    let read = read_header(s, known);
+    let Ok(head) = read else {
+        return read;
+    };
     let format = head.format;
     let steps = steps(s);
     if let Some(outside) = first_outside(steps, format, head.states, head.steps) {
@@ -184,5 +190,16 @@ pub fn read_table(s: &[u8], known: Known) -> Result<Head, TableRefusal>
     match first_doubled(steps, format, head.steps) {
         Some(doubled) => Err(TableRefusal::Doubled(doubled)),
         None => Ok(head),
+    }
+}
+
+// The answer of a table's read that is no header; for a header it is blank.
+#[tactic(auto, unfolding(crate::specs::TableVerdicts::table_verdict))]
+pub fn table_answer(read: Result<Head, TableRefusal>, file: usize) -> Answer
+    ensures { result ≡ refusal_of (table_verdict file read) }
+{
+    match read {
+        Ok(_) => Answer::of(0, 0, 0),
+        Err(refusal) => refusal.answer(file),
     }
 }

@@ -17,13 +17,15 @@ ghost use Rattle.std.specs.Prelude.{◌≡◌, true, ◌<◌, ◌≤◌, length,
 
 use answers::Answer;
 use certificates::Sizes;
-use std::io::{self, Read, Stdin};
+use std::io::{Read, Stdin};
 use table_reader::Known;
 
 // ---- printing
 
+// A write that fails is not told, and what comes after it is printed all the same: so each of the results is let go.
+
 // The six numbers, on a line.
-fn print_answer(rt: &impl Print, answer: Answer) -> io::Result<()> {
+fn print_answer(rt: &impl Print, answer: Answer) {
     let Answer {
         code,
         file,
@@ -32,15 +34,21 @@ fn print_answer(rt: &impl Print, answer: Answer) -> io::Result<()> {
         c,
         d,
     } = answer;
-    println!(rt; "{code} {file} {a} {b} {c} {d}")
+    for number in [code, file, a, b, c] {
+        let _ = print!(rt; "{number}");
+        let _ = print!(rt; " ");
+    }
+    let _ = print!(rt; "{d}");
+    let _ = println!(rt);
 }
 
 // The bytes as hexadecimal digits, on a line.
-fn print_bytes(rt: &impl Print, bytes: &[u8]) -> io::Result<()> {
+fn print_bytes(rt: &impl Print, bytes: &[u8]) {
     for value in bytes {
-        print!(rt; "{value:02x}")?;
+        let _ = print!(rt; "{:x}", *value / 16);
+        let _ = print!(rt; "{:x}", *value % 16);
     }
-    println!(rt)
+    let _ = println!(rt);
 }
 
 // ---- what the readers say
@@ -224,11 +232,11 @@ impl Files<'_> {
     }
 
     // The output of one byte more than the certificate, as the maker leaves it.
-    fn print_written(self, rt: &impl Print) -> io::Result<()> {
+    fn print_written(self, rt: &impl Print) {
         let n = self.room() + 1;
         let mut output = [0xa5u8; 1024];
         self.make_in(&mut output, n);
-        print_bytes(rt, &output[..n])
+        print_bytes(rt, &output[..n]);
     }
 
     // The six numbers that the letter asks for.
@@ -250,11 +258,11 @@ impl Files<'_> {
     }
 
     // Prints what the letter asks for.
-    fn show(self, rt: &impl Print, letter: u8) -> io::Result<()> {
+    fn show(self, rt: &impl Print, letter: u8) {
         if letter == b'W' {
-            self.print_written(rt)
+            self.print_written(rt);
         } else {
-            print_answer(rt, self.numbers(letter))
+            print_answer(rt, self.numbers(letter));
         }
     }
 }
@@ -296,7 +304,7 @@ fn decode<'a>(digits: &[u8], buffer: &'a mut [u8; 1024]) -> &'a [u8] {
 }
 
 // Prints what the letter asks for of the files of a case.
-fn show_files(rt: &impl Print, letter: u8, files: &[u8]) -> io::Result<()> {
+fn show_files(rt: &impl Print, letter: u8, files: &[u8]) {
     let (left, others) = cut(files, b' ');
     let (right, file) = cut(others, b' ');
     let (mut l, mut r, mut f) = ([0u8; 1024], [0u8; 1024], [0u8; 1024]);
@@ -305,48 +313,41 @@ fn show_files(rt: &impl Print, letter: u8, files: &[u8]) -> io::Result<()> {
         right: decode(right, &mut r),
         file: decode(file, &mut f),
     };
-    files.show(rt, letter)
+    files.show(rt, letter);
 }
 
 // Prints the words of a case and what it shows.
-fn show_case(rt: &impl Print, line: &[u8]) -> io::Result<()> {
+fn show_case(rt: &impl Print, line: &[u8]) {
     let (words, rest) = cut(line, b':');
     let (_, rest) = cut(rest, b' ');
     let (letter, files) = cut(rest, b' ');
-    rt.write_all(words)?;
-    print!(rt; ": ")?;
-    show_files(rt, letter.first().copied().unwrap_or(0), files)
+    let _ = rt.write_all(words);
+    let _ = print!(rt; ": ");
+    show_files(rt, letter.first().copied().unwrap_or(0), files);
 }
 
 // Shows the cases, of which each ends in a line feed.
-fn show_cases(rt: &impl Print, text: &[u8]) -> io::Result<()> {
+fn show_cases(rt: &impl Print, text: &[u8]) {
     for line in text.split_inclusive(|byte| *byte == b'\n') {
         let (case, _) = cut(line, b'\n');
-        show_case(rt, case)?;
+        show_case(rt, case);
     }
-    Ok(())
 }
 
-// Reads until the text is full or the input ends, and answers what came.
-fn read_text(mut stdin: Stdin, text: &mut [u8]) -> io::Result<&[u8]> {
+// Reads until the text is full or the input ends, and answers what came. A read that fails is taken for the end.
+fn read_text(mut stdin: Stdin, text: &mut [u8]) -> &[u8] {
     let mut n: usize = 0;
     while n < text.len() {
-        let got = stdin.read(&mut text[n..])?;
+        let got = stdin.read(&mut text[n..]).unwrap_or(0);
         if got == 0 {
             break;
         }
         n += got;
     }
-    Ok(&text[..n])
-}
-
-// Shows the cases of standard input.
-fn show_input(rt: &HostRuntime) -> io::Result<()> {
-    let mut text = [0u8; 65536];
-    show_cases(rt, read_text(rt.stdin(), &mut text)?)
+    &text[..n]
 }
 
 fn main(rt: HostRuntime) {
-    // A read or a write that fails ends the cases, and is not told.
-    let _ = show_input(&rt);
+    let mut text = [0u8; 65536];
+    show_cases(&rt, read_text(rt.stdin(), &mut text));
 }

@@ -10,8 +10,8 @@ use Rattle.table_reader.proofs.read_table.Goals as goal
 
 pub first_doubled-requires : goal.first_doubled-requires
 first_doubled-requires c =
-    let head = c.in_ok-head.head in
-    let h = header-none c.args.known 0 c.args.s.now (sym c.read_header.ensures ∙ c.in_ok-head.was) in
+    let head = c.in-Ok.head in
+    let h = header-none c.args.known 0 c.args.s.now (sym c.read_header-read.ensures ∙ c.in-Ok.is) in
     let o = head_ok c.args.known c.args.s.now h.0 h.1 in
-    let inside = found_none head.steps (ends_outside head.format c.steps-steps.result.now head.states) (sym c.first_outside.ensures ∙ c.in_default.is) in
+    let inside = found_none head.steps (ends_outside head.format c.steps-steps.result.now head.states) (sym c.first_outside.ensures ∙ c.in_default-first_outside.is) in
     outside-none head.format c.steps-steps.result.now head.states 64 head.steps refl inside (rw o.states-is o.states-le)
