@@ -20,9 +20,9 @@ use Rattle.tables.specs.declared.Head.{Head}
 use Rattle.sides.specs.declared.Side.{Side}
 use Rattle.sides.specs.Side.{system_in, key_at, silent_from, first_step, link_at, group_at, entered_by}
 use Rattle.sides.specs.Built.{NextFrom, LinkedFrom, Roomy, TableIn, goes_by}
-use Rattle.sides.specs.Building.{Unlinked, put_linked, relinked}
+use Rattle.sides.specs.Building.{Unlinked, put_entered, put_linked, relinked}
 use Rattle.sides.proofs.GroupLaws.{entered-known, entered-small}
-use Rattle.sides.proofs.StoreLaws.{put_same, put_other, entered-apart}
+use Rattle.sides.proofs.StoreLaws.{EnteredApart, LinkedApart, put_same, put_other, entered-apart, linked-apart, put-apart}
 
 module _ (m : ℕ) (P : ℕ → Bool) where
   -- one step earlier
@@ -107,6 +107,13 @@ module _ {side : Side} {j : ℕ} (w : LinkedFrom (system_in side) (key_at side) 
 
   -- ---- where it is stored
 
+  -- the store of the states that are entered, and those of the links after it
+  abbrev entered : EnteredApart side (put_entered side s j key word) key
+  entered = entered-apart side s j key word
+
+  abbrev linked : LinkedApart (put_entered side s j key word) after s j
+  linked = linked-apart side s j key word
+
   -- the word at s of a silent step, and as before otherwise
   silent-here : key ≡ 0 → s < 64 → silent_from after s ≡ word
   silent-here e hs = rw (eq-eqb key 0 e) (put_same side.silent s word 0 (rw w.roomy.silent-room hs))
@@ -115,14 +122,14 @@ module _ {side : Side} {j : ℕ} (w : LinkedFrom (system_in side) (key_at side) 
   silent-other e x d = rw (eq-eqb key 0 e) (put_other side.silent s word 0 x d)
 
   silent-kept : (key ≡ 0 → ⊥) → (x : ℕ) → silent_from after x ≡ silent_from side x
-  silent-kept n x = ap (λ (l : List ℕ). get_or l x 0) ((entered-apart side s j key word).silent n)
+  silent-kept n x = ap (λ (l : List ℕ). get_or l x 0) (linked.silent ∙ entered.silent n)
 
   -- the word at j of any other, and as before otherwise
   group-here : (key ≡ 0 → ⊥) → group_at after j ≡ word
   group-here n = rw (ne_eqb key 0 n) (put_same side.group j word 0 (rw w.roomy.group-room hj))
 
   group-silent : key ≡ 0 → (x : ℕ) → group_at after x ≡ group_at side x
-  group-silent e x = ap (λ (l : List ℕ). get_or l x 0) ((entered-apart side s j key word).group e)
+  group-silent e x = ap (λ (l : List ℕ). get_or l x 0) (linked.group ∙ entered.group e)
 
   group-other : (x : ℕ) → (x ≡ j → ⊥) → group_at after x ≡ group_at side x
   group-other x d = elim (ℕ_discrete key 0) [
@@ -135,13 +142,13 @@ module _ {side : Side} {j : ℕ} (w : LinkedFrom (system_in side) (key_at side) 
   next_here = put_same side.next j (first_step side s) 0 (rw w.roomy.next-room hj)
 
   next-other : (x : ℕ) → (x ≡ j → ⊥) → link_at after x ≡ link_at side x
-  next-other x d = put_other side.next j (first_step side s) 0 x d
+  next-other x d = ap (λ (l : List ℕ). get_or l x 0) linked.next ∙ put_other side.next j (first_step side s) 0 x d
 
   first-here : s < 64 → first_step after s ≡ j
   first-here hs = put_same side.first s j 256 (rw w.roomy.first-room hs)
 
   first-other : (x : ℕ) → (x ≡ s → ⊥) → first_step after x ≡ first_step side x
-  first-other x d = put_other side.first s j 256 x d
+  first-other x d = ap (λ (l : List ℕ). get_or l x 256) linked.first ∙ put_other side.first s j 256 x d
 
   roomy-after : Roomy after
   roomy-after =
@@ -271,16 +278,17 @@ links-start {side = side} w =
 pub links-next : {h : Head} {labels steps words : List ℕ} {side : Side} {j : ℕ} → LinksIn h labels steps words (suc j) side
     → LinksIn h labels steps words j (relinked side j)
 unfolding relinked
-links-next w =
+links-next {side = side} {j} w =
     let t = w.table in
     let l = w.below in
+    let a = put-apart side j in
     record {
       table = record {
-        states-is = t.states-is;
-        steps-is = t.steps-is;
+        states-is = a.states ∙ t.states-is;
+        steps-is = a.steps ∙ t.steps-is;
         initial-is = t.initial-is;
-        word-is = t.word-is;
-        related-is = t.related-is;
+        word-is = a.word ∙ t.word-is;
+        related-is = a.related ∙ t.related-is;
         labels-are = t.labels-are;
         from-are = t.from-are;
         to-are = t.to-are;

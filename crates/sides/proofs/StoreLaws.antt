@@ -6,6 +6,7 @@ use lib.ListN.{length, set, get_or}
 use lib.Seq.{get_or-set_same, get_or-set_other}
 use borrow.Author.Tests.{eq-eqb, ne_eqb}
 use Rattle.sides.specs.declared.Side.{Side}
+use Rattle.sides.specs.Side.{first_step}
 use Rattle.sides.specs.Building.{put_entered, put_linked, relinked}
 
 -- ---- within a part; `past` is what is read past its end
@@ -58,13 +59,15 @@ entered-apart side s j key x = record {
   silent = λ n. rw (ne_eqb key 0 n);
 }
 
--- The stores of the links after it leave all but `first` and `next`.
-pub record LinkedApart (side side' : Side) : Type 0 where
+-- The stores of the links after it change one word of `first` and one of `next`, and leave all else.
+pub record LinkedApart (side side' : Side) (s j : ℕ) : Type 0 where
   pub others : Apart side side'
   pub silent : side'.silent ≡ side.silent
   pub group : side'.group ≡ side.group
+  pub first : side'.first ≡ set side.first s j
+  pub next : side'.next ≡ set side.next j (first_step side s)
 
-pub linked-apart : (side : Side) (s j key x : ℕ) → LinkedApart (put_entered side s j key x) (put_linked side s j key x)
+pub linked-apart : (side : Side) (s j key x : ℕ) → LinkedApart (put_entered side s j key x) (put_linked side s j key x) s j
 linked-apart side s j key x = record {
   others = record {
     states = refl;
@@ -79,6 +82,8 @@ linked-apart side s j key x = record {
   };
   silent = refl;
   group = refl;
+  first = refl;
+  next = refl;
 }
 
 -- So linking a step leaves all that is no link.
